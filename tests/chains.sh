@@ -5,13 +5,13 @@ set -u
 cd "$(dirname -- "$0")/.." || exit 1
 . tests/common.bash
 
-build_first
+take_program
 build_driver
 
 if [ "$(command -v md5sum sha1sum sha256sum sha512sum | wc -l)" -eq 4 ]; then
     # It prints what it tried.
     expect 'chains' 0 '' env TMPDIR="$work" \
-        python3 -B tests/chains.py crates/bag_program/out/bag_program "$driver" "$work/tried"
+        python3 -B tests/chains.py "$program" "$driver" "$work/tried"
     cat "$work/tried"
 else
     lacking 'chains of commands (the digest programs of coreutils are not installed)'

@@ -1,9 +1,9 @@
 #!/usr/bin/env python3
-"""command_ledgers.py PROGRAM: the commands on ledgers of every kind: missing ledgers, files that aren't ledgers, damaged and
-locked ledgers, full disks, every command after every other, and ledgers that sqlite3 reads back.
+"""command_ledgers.py PROGRAM: the commands on ledgers of every kind: missing ledgers, files that aren't ledgers,
+damaged and locked ledgers, full disks, every command after every other, and ledgers that sqlite3 reads back.
 
-Each command must print its lines and end with its status; what exists afterwards is compared with what existed before, name
-by name and octet by octet. At the end it prints how much of each was tried.
+Each command must print its lines and end with its status; what exists afterwards is compared with what existed before,
+name by name and octet by octet. At the end it prints how much of each was tried.
 """
 import hashlib
 import itertools
@@ -39,7 +39,8 @@ class Place:
         self.program, self.work, self.ledger = program, work, work / "at" / "ledger"
         self.ledger.parent.mkdir(parents=True)
         self.contents, self.bag, self.exports = contents, work / "bag", 0
-        lines = "".join(f"{hashlib.sha256(octets).hexdigest()}  {path.replace('%', '%25')}\n" for path, octets in contents.items())
+        lines = "".join(f"{hashlib.sha256(octets).hexdigest()}  {path.replace('%', '%25')}\n"
+            for path, octets in contents.items())
         self.tags = {"bagit.txt": DECLARATION, "manifest-sha256.txt": lines.encode()}
         if fetched:
             self.tags["fetch.txt"] = "".join(f"{URL}{path} - {path}\n" for path in fetched).encode()
@@ -53,14 +54,16 @@ class Place:
     def words(self, command):
         """The arguments of a command on the ledger and its transfer t1, with a new folder to export to."""
         self.exports += 1
-        folders = {"begin": [self.bag], "intake": [self.bag], "fetch": [self.bag], "export": [self.work / f"out{self.exports}"]}
+        folders = {"begin": [self.bag], "intake": [self.bag], "fetch": [self.bag],
+            "export": [self.work / f"out{self.exports}"]}
         name = [] if command == "list" else ["t1"]
         return [command, self.ledger, *name, *folders.get(command, [])]
 
     def there(self):
         """What is in the folder of the ledger: each file with its digest, and the folders."""
         digest = lambda file: hashlib.sha256(file.read_bytes()).hexdigest()
-        beside = {file.name: (file.lstat().st_mode, file.is_file() and digest(file)) for file in self.ledger.parent.iterdir()}
+        beside = {file.name: (file.lstat().st_mode, file.is_file() and digest(file))
+            for file in self.ledger.parent.iterdir()}
         return beside, sorted(file.name for file in self.work.iterdir())
 
     def refuses(self, *lines, but=()):
@@ -80,7 +83,8 @@ class Place:
 
 
     def changed(self, text):
-        """The answer of `list` after this change, which is in the file and not in its log. If it is refused, the file stays."""
+        """The answer of `list` after this change, which is in the file and not in its log. If it is refused, the file
+        stays."""
         database = sqlite3.connect(self.ledger)
         database.executescript(text)
         database.execute("PRAGMA wal_checkpoint(TRUNCATE)")
@@ -160,7 +164,8 @@ sys.stdin.read()
 
 
 def locked(place):
-    """While another program has the ledger open, no command does anything with it; afterwards everything is as it was."""
+    """While another program has the ledger open, no command does anything with it; afterwards everything is as it
+    was."""
     # In a separate process: if this one read and closed the file, it would lose its locks.
     words = [sys.executable, "-c", LOCK, place.ledger]
     with subprocess.Popen(words, stdin=subprocess.PIPE, stdout=subprocess.PIPE, text=True) as other:
@@ -187,7 +192,8 @@ DAMAGES = [
     ("UPDATE meta SET v = 1", "bag: not a ledger"),
     # The tables of format 1 are others.
     ("UPDATE meta SET v = 1; DROP TABLE piece; DROP TABLE held", "bag: not a ledger"),
-    ("UPDATE meta SET v = 1; DROP TABLE piece; DROP TABLE held; DROP TABLE tag; DROP TABLE transfer", "bag: not a ledger"),
+    ("UPDATE meta SET v = 1; DROP TABLE piece; DROP TABLE held; DROP TABLE tag; DROP TABLE transfer",
+        "bag: not a ledger"),
     ("INSERT INTO meta VALUES ('more', 1)", "bag: not a ledger"),
     ("DELETE FROM meta", "bag: not a ledger"),
     ("DROP TABLE piece", "bag: not a ledger"),
@@ -199,7 +205,8 @@ TOO_LARGE = ("UPDATE tag SET body = zeroblob(16777217) WHERE path = 'bagit.txt'"
 
 
 def damaged(make):
-    """Every command reports ledgers that another program changed, and leaves them alone. Returns how many there were."""
+    """Every command reports ledgers that another program changed, and leaves them alone. Returns how many there
+    were."""
     damages = [*DAMAGES, TOO_LARGE]
     for damage, line in damages:
         place = make(SMALL)
@@ -218,8 +225,8 @@ def damaged(make):
     return len(damages)
 
 
-# Two transfers. `t1` lists `abc`, an empty content and 65,537 zeros, and holds all three, the zeros in two pieces; `t2` lists and holds
-# `abc`. The ids of the payload files are 1 to 4.
+# Two transfers. `t1` lists `abc`, an empty content and 65,537 zeros, and holds all three, the zeros in two pieces; `t2`
+# lists and holds `abc`. The ids of the payload files are 1 to 4.
 TWO = {"t1": {"data/a.txt": b"abc", "data/e.txt": b"", "data/z": bytes(PIECE + 1)}, "t2": {"data/a.txt": b"abc"}}
 # Pieces in a table of any types and without owners, which is as good until its rows are not.
 LOOSE = """CREATE TABLE loose (item, n, body, PRIMARY KEY (item, n)); INSERT INTO loose SELECT * FROM piece; DROP TABLE piece;
@@ -228,6 +235,14 @@ LOOSE_HELD = """CREATE TABLE loose (id INTEGER PRIMARY KEY, transfer, path, size
     ALTER TABLE loose RENAME TO held; """
 LOOSE_TAGS = """CREATE TABLE loose (transfer, path, body); INSERT INTO loose SELECT * FROM tag; DROP TABLE tag;
     ALTER TABLE loose RENAME TO tag; """
+# Names and paths in columns for which `A` and `a` are equal.
+ANY_CASE = """CREATE TABLE loose (id INTEGER PRIMARY KEY, name TEXT COLLATE NOCASE); INSERT INTO loose SELECT * FROM transfer;
+    DROP TABLE transfer; ALTER TABLE loose RENAME TO transfer; """
+ANY_CASE_HELD = """CREATE TABLE loose (id INTEGER PRIMARY KEY, transfer, path TEXT COLLATE NOCASE, size);
+    INSERT INTO loose SELECT * FROM held; DROP TABLE held; ALTER TABLE loose RENAME TO held; """
+# The first payload file of `t1` does not pass; or no transfer can be opened with the tag files of `t1`.
+DAMAGED = "UPDATE piece SET body = x'616264' WHERE item = 1; "
+DAMAGED_TAGS = "UPDATE tag SET body = x'' WHERE transfer = 1 AND path = 'bagit.txt'; "
 # 2,000 transfers more, which hold nothing.
 MANY = """WITH RECURSIVE n(i) AS (SELECT 1 UNION ALL SELECT i + 1 FROM n WHERE i < 2000)
     INSERT INTO transfer (name) SELECT printf('n%04d', i) FROM n;
@@ -258,7 +273,8 @@ CHANGES = [
     ("UPDATE piece SET body = x'616264' WHERE item = 1", "bag: damaged t1 data/a.txt"),
     ("UPDATE piece SET body = x'01' WHERE item = 3 AND n = 1", "bag: damaged t1 data/z"),
     ("UPDATE piece SET body = zeroblob(65537) WHERE item = 3 AND n = 0", "bag: damaged t1 data/z"),
-    ("UPDATE piece SET body = x'616264' WHERE item = 1; DELETE FROM piece WHERE item = 3", "bag: damaged t1 data/a.txt"),
+    ("UPDATE piece SET body = x'616264' WHERE item = 1; DELETE FROM piece WHERE item = 3",
+        "bag: damaged t1 data/a.txt"),
     ("UPDATE held SET size = 4 WHERE id = 1", "bag: damaged t1 data/a.txt"),
     ("UPDATE held SET size = size - 1 WHERE id = 3", "bag: damaged t1 data/z"),
     ("UPDATE held SET size = -3 WHERE id = 1", "bag: damaged t1 data/a.txt"),
@@ -275,7 +291,8 @@ CHANGES = [
      "bag: not a ledger"),
     ("PRAGMA foreign_keys = OFF; DELETE FROM held", "bag: not a ledger"),
     (LOOSE, *OPENED),
-    (LOOSE + "UPDATE piece SET body = CAST(zeroblob(65536) AS TEXT) WHERE item = 3 AND n = 0", "bag: damaged t1 data/z"),
+    (LOOSE + "UPDATE piece SET body = CAST(zeroblob(65536) AS TEXT) WHERE item = 3 AND n = 0",
+        "bag: damaged t1 data/z"),
     (LOOSE + "UPDATE piece SET body = NULL WHERE item = 3 AND n = 1", "bag: damaged t1 data/z"),
     (LOOSE + "UPDATE piece SET n = 'one' WHERE item = 3 AND n = 1", "bag: not a ledger"),
     (LOOSE + "INSERT INTO piece VALUES (99, 0, x'00')", "bag: not a ledger"),
@@ -289,6 +306,20 @@ CHANGES = [
     (LOOSE_TAGS, *OPENED),
     (LOOSE_TAGS + "UPDATE tag SET transfer = '2' WHERE transfer = 2 AND path = 'bagit.txt'", "bag: not a ledger"),
     (LOOSE_TAGS + "INSERT INTO tag VALUES ('2', 'more.txt', x'00')", "bag: not a ledger"),
+    # A database that is no ledger is told as that, whatever is damaged too, and wherever.
+    (DAMAGED + "UPDATE transfer SET name = CAST(x'7aff' AS TEXT) WHERE name = 't2'", "bag: not a ledger"),
+    (DAMAGED + "UPDATE tag SET path = CAST(x'7aff' AS TEXT) WHERE transfer = 2 AND path = 'bagit.txt'",
+        "bag: not a ledger"),
+    (DAMAGED + "UPDATE held SET path = CAST(x'646174612f7aff' AS TEXT) WHERE id = 4", "bag: not a ledger"),
+    (DAMAGED_TAGS + "UPDATE transfer SET name = CAST(x'7aff' AS TEXT) WHERE name = 't2'", "bag: not a ledger"),
+    (DAMAGED_TAGS + "ALTER TABLE piece RENAME COLUMN body TO octets", "bag: not a ledger"),
+    ("UPDATE held SET path = CAST(x'646174612f7aff' AS TEXT) WHERE id = 3", "bag: not a ledger"),
+    # What is told is the first by octets, also where the columns have another order.
+    (ANY_CASE, *OPENED),
+    (ANY_CASE_HELD, *OPENED),
+    (ANY_CASE + DAMAGED + "INSERT INTO transfer (name) VALUES ('T3')", "bag: damaged T3 "),
+    (ANY_CASE_HELD + DAMAGED + "INSERT INTO held (transfer, path, size) VALUES (1, 'data/Y', 0)",
+        "bag: damaged t1 data/Y"),
     # No name is judged, and each stays on its line.
     ("UPDATE transfer SET name = 'a' || char(10) || 't0' || char(13) || '%' WHERE id = 1", "a%0At0%0D%25", "t2"),
 ]
@@ -310,14 +341,16 @@ def two_transfers(make):
             text = "INSERT INTO held (transfer, path, size) VALUES (?, ?, ?)"
             item = database.execute(text, (transfer, path, len(octets))).lastrowid
             for n, at in enumerate(range(0, len(octets), PIECE)):
-                database.execute("INSERT INTO piece (item, n, body) VALUES (?, ?, ?)", (item, n, octets[at : at + PIECE]))
+                database.execute("INSERT INTO piece (item, n, body) VALUES (?, ?, ?)",
+                    (item, n, octets[at : at + PIECE]))
     database.commit()
     database.close()
     return place
 
 
 def changed(make):
-    """A ledger of two transfers after each change. Returns how many there were, with those of a ledger of many files."""
+    """A ledger of two transfers after each change. Returns how many there were, with those of a ledger of many
+    files."""
     for change, *lines in CHANGES:
         found = two_transfers(make).changed(change)
         assert found == (3 if lines[0].startswith("bag: ") else 0, lines), (change, found)
@@ -329,11 +362,11 @@ def changed(make):
     for damage, line in damages:
         place.ledger.write_bytes(whole)
         assert place.changed(damage) == (3, [line]), (damage, line)
-    return len(CHANGES) + len(damages) + damaged_in_turns(make)
+    return len(CHANGES) + len(damages) + damaged_in_pieces(make)
 
 
-def damaged_in_turns(make):
-    """A ledger of payload files of several pieces, which are read in turns, beside short ones. Returns how often it was damaged."""
+def damaged_in_pieces(make):
+    """A ledger of payload files of several pieces, and of short ones. Returns how often it was damaged."""
     lengths = [number % 5 * 65_536 + number * 13 % 3 for number in range(24)]
     place = make({f"data/{number:02}.txt": bytes([number + 1]) * length for number, length in enumerate(lengths)})
     assert place.run(*place.words("begin")) == (0, ["new"])
@@ -341,16 +374,16 @@ def damaged_in_turns(make):
     judge(place, place.contents)
     long = [path for path in sorted(place.contents) if len(place.contents[path]) > 65_536]
     whole = place.ledger.read_bytes()
-    for number, damage in enumerate(DAMAGES_IN_TURNS * 5):
+    for number, damage in enumerate(DAMAGES_IN_PIECES * 5):
         first, second = sorted((number * 7 % len(long), number * 11 % len(long)))
         items = [f"(SELECT id FROM held WHERE path = '{long[n]}')" for n in (first, second)]
         place.ledger.write_bytes(whole)
         found = place.changed("; ".join(damage.format(item) for item in dict.fromkeys(items)))
         assert found == (3, [f"bag: damaged t1 {long[first]}"]), (damage, items, found)
-    return 5 * len(DAMAGES_IN_TURNS)
+    return 5 * len(DAMAGES_IN_PIECES)
 
 
-DAMAGES_IN_TURNS = [
+DAMAGES_IN_PIECES = [
     "UPDATE piece SET body = zeroblob(65536) WHERE item = {} AND n = 0",
     "UPDATE piece SET body = zeroblob(length(body)) WHERE item = {0} AND n = (SELECT max(n) FROM piece WHERE item = {0})",
     "DELETE FROM piece WHERE item = {} AND n = 1",
@@ -362,7 +395,8 @@ DAMAGES_IN_TURNS = [
 
 
 def damages_among(paths):
-    """Damages of one of these payload files and of the last: the first by path is named, wherever its batch begins or ends."""
+    """Damages of one of these payload files and of the last: the first by path is named, wherever its batch begins or
+    ends."""
     item = "item = (SELECT id FROM held WHERE path = '{}')"
     last = f"DELETE FROM piece WHERE {item.format(paths[-1])}"
     for place in (0, 1, 62, 63, 64, 65, 127, 128, len(paths) - 2):
@@ -379,9 +413,10 @@ def no_second_ledger(make):
 
 
 def expected(place, command, held):
-    """The answer of a command if the transfer is open (`held` isn't None) and holds these payload files, and what it holds
-    afterwards."""
-    missing = [f"manifest-sha256.txt: missing: {path}" for path in sorted(SMALL) if held is not None and path not in held]
+    """The answer of a command if the transfer is open (`held` isn't None) and holds these payload files, and what it
+    holds afterwards."""
+    missing = [f"manifest-sha256.txt: missing: {path}" for path in sorted(SMALL)
+        if held is not None and path not in held]
     if command == "begin":
         return (0, ["new"] if held is None else ["again"]), held or set()
     if held is None:
@@ -418,8 +453,8 @@ def beside_others(make):
 
 
 def each_after_each(make):
-    """Every command after every other, with a ledger that is missing at first or that has the transfer. Returns the number of
-    orders."""
+    """Every command after every other, with a ledger that is missing at first or that has the transfer. Returns the
+    number of orders."""
     orders = list(itertools.product([False, True], ALL, ALL))
     for begun, *commands in orders:
         place, held = make(SMALL, fetched=["data/e.txt"]), None
@@ -437,19 +472,21 @@ def each_after_each(make):
 def exported(place, folder, held):
     """The folder has exactly the tag files and the payload files that are held."""
     files = {str(file.relative_to(folder)): file.read_bytes() for file in folder.rglob("*") if file.is_file()}
-    assert files == {**place.tags, **{path: place.contents[path] for path in held}} and (folder / "data").is_dir(), folder
+    assert files == {**place.tags, **{path: place.contents[path] for path in held}} and (
+        folder / "data").is_dir(), folder
 
 
 def judge(place, held, tables=None):
-    """The tables have exactly the rows of one transfer with these payload files (section 18 of FORMAT.md). There are no other tables than
-    these."""
+    """The tables have exactly the rows of one transfer with these payload files (section 18 of FORMAT.md). There are no
+    other tables than these."""
     assert place.sql("PRAGMA integrity_check") == [("ok",)] and place.sql("PRAGMA foreign_key_check") == []
     assert place.sql("SELECT k, v FROM meta") == [("bag-ledger", 2)]
     texts = place.sql("SELECT sql FROM sqlite_schema WHERE sql IS NOT NULL")
     assert sorted(" ".join(text.split()) for (text,) in texts) == (tables or TABLES), texts
     [(transfer, name)] = place.sql("SELECT id, name FROM transfer")
     assert name == "t1"
-    assert sorted(place.sql("SELECT transfer, path, body FROM tag")) == sorted((transfer, *tag) for tag in place.tags.items())
+    assert sorted(place.sql("SELECT transfer, path, body FROM tag")) == sorted((transfer, *tag)
+        for tag in place.tags.items())
     rows = place.sql("SELECT transfer, path, size FROM held")
     assert sorted(rows) == sorted((transfer, path, len(place.contents[path])) for path in held), (rows, held)
     pieces = [
@@ -462,8 +499,8 @@ def judge(place, held, tables=None):
 
 
 def read_back(make):
-    """Files of all lengths close to multiples of a piece, read by sqlite3 after each command that writes. Returns how many
-    there were."""
+    """Files of all lengths close to multiples of a piece, read by sqlite3 after each command that writes. Returns how
+    many there were."""
     lengths = [0, 1, PIECE - 1, PIECE, PIECE + 1, 2 * PIECE, 3 * PIECE + 17]
     contents = {f"data/{length} %": os.urandom(length) for length in lengths}
     place = make(contents)
@@ -507,8 +544,8 @@ def many_items(make):
 
 
 def counted_rows(make):
-    """A file of two pieces and one octet: the rows of `held` and `piece` after it came whole, again, and changed. Returns how many
-    deliveries there were."""
+    """A file of two pieces and one octet: the rows of `held` and `piece` after it came whole, again, and changed.
+    Returns how many deliveries there were."""
     octets = os.urandom(2 * PIECE + 1)
     place = make({"data/a": octets, "data/b": b"b"})
     rows = lambda: [place.sql(f"SELECT count(*) FROM {table}")[0][0] for table in ("held", "piece")]
@@ -532,9 +569,10 @@ def counted_rows(make):
 
 
 def full_disks(make):
-    """`begin`, and then `intake` or `fetch`, with files limited to a length: what was answered is held, and the next command
-    works. Returns how many were tried."""
-    contents = {"data/a": os.urandom(20_000), "data/b": b"", "data/c": os.urandom(3 * PIECE), "data/d": os.urandom(90_000)}
+    """`begin`, and then `intake` or `fetch`, with files limited to a length: what was answered is held, and the next
+    command works. Returns how many were tried."""
+    contents = {"data/a": os.urandom(20_000), "data/b": b"", "data/c": os.urandom(3 * PIECE),
+        "data/d": os.urandom(90_000)}
     tried, seen = list(itertools.product(("intake", "fetch"), range(0, 800_000, 19_997))), set()
     for command, limit in tried:
         place = make(contents, fetched=contents)
@@ -548,7 +586,8 @@ def full_disks(make):
         taken = [line.removeprefix("taken ") for line in lines if line.startswith("taken ")]
         if lines == ["bag: store"] or "refused" in "".join(lines):
             assert status == 3 and (len(lines) == 1 or len(lines) == len(contents)), lines
-            assert lines[len(taken) :] in ([f"refused {path}: store" for path in list(contents)[len(taken) :]], ["bag: store"]), lines
+            assert lines[len(taken) :] in ([f"refused {path}: store" for path in list(contents)[len(taken) :]],
+                ["bag: store"]), lines
             seen.add((command, "full"))
         else:
             assert status == 0 and taken == list(contents), lines
@@ -567,13 +606,15 @@ def full_disks(make):
 def main(program):
     with tempfile.TemporaryDirectory() as folder:
         number = itertools.count()
-        make = lambda contents, fetched=(): Place(os.path.abspath(program), pathlib.Path(folder) / str(next(number)), contents, fetched)
+        make = lambda contents, fetched=(): Place(os.path.abspath(program), pathlib.Path(folder) / str(next(number)),
+            contents, fetched)
         kinds = no_ledgers, damaged, changed, each_after_each, read_back, counted_rows, many_items, full_disks
         none, damages, changes, orders, files, rows, items, disks = (kind(make) for kind in kinds)
         no_second_ledger(make)
         beside_others(make)
     print(
-        f"{none} that are not ledgers, {damages} damaged, {changes} changed, {orders} orders, {files} files read by sqlite3,"
+        f"{none} that are not ledgers, {damages} damaged, {changes} changed, {orders} orders,"
+        f" {files} files read by sqlite3,"
         f" {rows} deliveries whose rows were counted, {items} payload files in one ledger, {disks} full disks"
     )
 

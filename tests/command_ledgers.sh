@@ -4,9 +4,9 @@ set -u
 cd "$(dirname -- "$0")/.." || exit 1
 . tests/common.bash
 
-build_first
-tried='11 that are not ledgers, 21 damaged, 95 changed, 98 orders, 7 files read by sqlite3, 5 deliveries whose rows were counted,'
-tried+=' 100000 payload files in one ledger, 82 full disks'
+take_program
+tried='11 that are not ledgers, 21 damaged, 105 changed, 98 orders, 7 files read by sqlite3,'
+tried+=' 5 deliveries whose rows were counted, 100000 payload files in one ledger, 82 full disks'
 expect 'ledgers of every kind' 0 "$tried" \
-    env TMPDIR="$work" python3 -B tests/command_ledgers.py crates/bag_program/out/bag_program
+    env TMPDIR="$work" python3 -B tests/command_ledgers.py "$program"
 finish

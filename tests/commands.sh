@@ -42,7 +42,7 @@ both_missing='manifest-sha256.txt: missing: data/a.txt
 manifest-sha256.txt: missing: data/e.txt
 not complete'
 
-build_first
+take_program
 ledger=$work/ledger
 new_tags tags
 cp -r examples/first-bag "$work/whole"
@@ -68,16 +68,42 @@ expect 'a new ledger: its owner alone may write to it' 0 $'new\n644' new_mode
 
 # A transfer that arrives in one folder.
 expect 'begin' 0 new bag begin "$ledger" t1 "$work/tags"
-printf 'an old log' >"$work/gone-wal"
-for words in 'list GONE' 'report GONE t1' 'audit GONE t1' "intake GONE t1 $work/whole" "fetch GONE t1 $work/whole" \
-    "export GONE t1 $work/new"; do
-    # shellcheck disable=SC2086
-    expect "${words%% *} beside a log whose ledger is gone" 3 'bag: not a ledger' bag ${words/GONE/"$work/gone"}
+# A log without its ledger, whose file is gone or empty. Of a ledger that was never made 41 octets are left at most, and
+# `begin` takes them up; a longer log is all that is left of a ledger, and no command touches it.
+# alone SIZE FOUND: a log of this size beside no file, or an empty one.
+alone() {
+    rm -f "$work/gone"
+    [ "$2" = none ] || : >"$work/gone"
+    head -c "$1" /dev/urandom | tee "$work/gone log" >"$work/gone-wal"
+}
+# is_alone FOUND: both are as they were.
+is_alone() {
+    cmp "$work/gone log" "$work/gone-wal" &&
+        if [ "$1" = none ]; then nothing "$work/gone"; else [ -f "$work/gone" ] && [ ! -s "$work/gone" ]; fi
+}
+reading=('list GONE' 'report GONE t1' 'audit GONE t1' "intake GONE t1 $work/whole" "fetch GONE t1 $work/whole" \
+    "export GONE t1 $work/new")
+begins=("begin GONE t1 $work/tags" "begin GONE T1 $work/tags" "begin GONE t1 $work/nodir")
+for found in none empty; do
+    for size in 42 278656; do
+        alone "$size" "$found"
+        for words in "${reading[@]}" "${begins[@]}"; do
+            # shellcheck disable=SC2086
+            expect "a log of $size octets alone, $found: $words" 3 'bag: store' bag ${words/GONE/"$work/gone"}
+            expect "a log of $size octets alone, $found: $words: it stays as it is" 0 '' is_alone "$found"
+        done
+    done
+    for size in 1 41; do
+        alone "$size" "$found"
+        for words in "${reading[@]}"; do
+            # shellcheck disable=SC2086
+            expect "a log of $size octets alone, $found: $words" 3 'bag: not a ledger' bag ${words/GONE/"$work/gone"}
+            expect "a log of $size octets alone, $found: $words: it stays as it is" 0 '' is_alone "$found"
+        done
+        expect "a log of $size octets alone, $found: begin" 0 new bag begin "$work/gone" t1 "$work/tags"
+        expect "a log of $size octets alone, $found: begin: it is gone" 0 '' nothing "$work/gone-wal"
+    done
 done
-expect 'a log whose ledger is gone: it stays as it is' 0 '' cmp "$work/gone-wal" <(printf 'an old log')
-expect 'a log whose ledger is gone: no ledger is made' 0 '' nothing "$work/gone"
-expect 'begin beside a log whose ledger is gone' 0 new bag begin "$work/gone" t1 "$work/tags"
-expect 'begin beside a log whose ledger is gone: so is the log' 0 '' nothing "$work/gone-wal"
 expect 'a transfer of which nothing came' 1 "$both_missing" bag report "$ledger" t1
 expect 'a transfer of which nothing came, audited' 1 "$both_missing" bag audit "$ledger" t1
 expect 'intake' 0 $'taken data/a.txt\ntaken data/e.txt' bag intake "$ledger" t1 "$work/whole"
@@ -143,7 +169,8 @@ expect 'in another order: export' 0 'exported 4 files' bag export "$work/other" 
 expect 'in any order the bag is the same' 0 $'valid\nvalid' same_bag "$work/one bag" "$work/other bag"
 expect 'another transfer' 0 new bag begin "$work/other" t3 "$work/tags"
 expect 'another transfer: one file' 0 'taken data/e.txt' bag intake "$work/other" t3 "$work/e"
-expect 'another transfer: report' 1 $'manifest-sha256.txt: missing: data/a.txt\nnot complete' bag report "$work/other" t3
+expect 'another transfer: report' 1 $'manifest-sha256.txt: missing: data/a.txt\nnot complete' \
+    bag report "$work/other" t3
 expect 'another transfer: the other file' 0 'taken data/a.txt' bag intake "$work/other" t3 "$work/a"
 expect 'another transfer: report again' 0 valid bag report "$work/other" t3
 expect 'both names' 0 $'t1\nt3' bag list "$work/other"
@@ -216,14 +243,17 @@ expect 'a supplier of a directory' 3 'refused data/e.txt: supplier' bag fetch "$
 ln -s "$work/supplier/e" "$work/of a link/data/e.txt"
 expect 'a supplier of a link' 3 'refused data/e.txt: supplier' bag fetch "$work/holes" w "$work/of a link"
 ln -s none "$work/of a lost link/data/e.txt"
-expect 'a supplier of a link that leads nowhere' 3 'refused data/e.txt: supplier' bag fetch "$work/holes" w "$work/of a lost link"
+expect 'a supplier of a link that leads nowhere' 3 'refused data/e.txt: supplier' \
+    bag fetch "$work/holes" w "$work/of a lost link"
 mkfifo "$work/of a fifo/data/e.txt"
-expect 'a supplier of a fifo, which is never opened' 3 'refused data/e.txt: supplier' bag fetch "$work/holes" w "$work/of a fifo"
+expect 'a supplier of a fifo, which is never opened' 3 'refused data/e.txt: supplier' \
+    bag fetch "$work/holes" w "$work/of a fifo"
 brought 'linked' files/e.txt ''
 ln -s files "$work/linked/data"
 expect 'a supplier whose directory is a link' 3 'refused data/e.txt: supplier' bag fetch "$work/holes" w "$work/linked"
 put "$work/of a file/data" ''
-expect 'a supplier with a file for the directory' 1 'refused data/e.txt: not supplied' bag fetch "$work/holes" w "$work/of a file"
+expect 'a supplier with a file for the directory' 1 'refused data/e.txt: not supplied' \
+    bag fetch "$work/holes" w "$work/of a file"
 expect 'a supplier of another file' 1 'refused data/e.txt: length' bag fetch "$work/holes" w "$work/x"
 expect 'no supplier' 3 'bag: files' bag fetch "$work/holes" w "$work/none"
 expect 'a file for a supplier' 3 'bag: files' bag fetch "$work/holes" w "$work/e/data/e.txt"
@@ -239,7 +269,8 @@ expect 'a hole: the bag with its hole filled' 0 $'valid\nvalid' same_bag "$work/
 
 # Several entries, one of which lists a file again.
 new_tags entries
-printf '%s\n' 'http://example.org/e 0 data/e.txt' 'http://example.org/1 - data/a.txt' 'http://example.org/2 3 data/a.txt' \
+printf '%s\n' 'http://example.org/e 0 data/e.txt' 'http://example.org/1 - data/a.txt' \
+    'http://example.org/2 3 data/a.txt' \
     >"$work/entries/fetch.txt"
 expect 'entries' 0 new bag begin "$work/several" t1 "$work/entries"
 expect 'entries: none is supplied' 1 'refused data/e.txt: not supplied
@@ -248,7 +279,8 @@ refused data/a.txt: not supplied' bag fetch "$work/several" t1 "$work/empty"
 expect 'entries: a damaged one' 1 'refused data/e.txt: not supplied
 refused data/a.txt: digest sha256
 refused data/a.txt: digest sha256' bag fetch "$work/several" t1 "$work/abd"
-expect 'entries: one of them' 1 $'refused data/e.txt: not supplied\ntaken data/a.txt' bag fetch "$work/several" t1 "$work/a"
+expect 'entries: one of them' 1 $'refused data/e.txt: not supplied\ntaken data/a.txt' \
+    bag fetch "$work/several" t1 "$work/a"
 expect 'entries: the other' 0 'taken data/e.txt' bag fetch "$work/several" t1 "$work/e"
 expect 'entries: a payload without a fetch.txt' 0 '' bag fetch "$work/other" t1 "$work/e"
 
@@ -294,9 +326,11 @@ refused 'a bad url' 1 'refused: fetch.txt:1: url' "$work/url"
 but not-in fetch.txt 'http://example.org/z - data/z\n'
 refused 'an entry that is not listed' 1 'refused: fetch.txt: not in manifest-sha256.txt: data/z' "$work/not-in"
 but not-listed tagmanifest-sha256.txt ''
-refused 'a manifest that is not listed' 1 'refused: tagmanifest-sha256.txt: not listed: manifest-sha256.txt' "$work/not-listed"
+refused 'a manifest that is not listed' 1 'refused: tagmanifest-sha256.txt: not listed: manifest-sha256.txt' \
+    "$work/not-listed"
 but wrong-digest tagmanifest-sha256.txt "$e_sha256  manifest-sha256.txt\n"
-refused 'a wrong digest of a manifest' 1 'refused: tagmanifest-sha256.txt: digest: manifest-sha256.txt' "$work/wrong-digest"
+refused 'a wrong digest of a manifest' 1 'refused: tagmanifest-sha256.txt: digest: manifest-sha256.txt' \
+    "$work/wrong-digest"
 but lost tagmanifest-sha256.txt "$(cd "$work/tags" && sha256sum manifest-sha256.txt)\n$e_sha256  notes.txt\n"
 refused 'a tag file that is missing' 1 'refused: tagmanifest-sha256.txt: missing: notes.txt' "$work/lost"
 but clash manifest-sha256.txt "$a_sha256  data/a%25\n$a_sha256  data/a%25/b\n"
@@ -338,13 +372,16 @@ expect 'a new transfer' 0 new bag begin "$work/none taken" t1 "$work/tags"
 for folder in 'with link' 'with fifo' 'other octets' 'plain data' none 'e/data/e.txt'; do
     refused "begin with '$folder'" 3 'bag: files' "$work/$folder"
     expect "intake of '$folder'" 3 'bag: files' bag intake "$work/none taken" t1 "$work/$folder"
-    expect "intake of '$folder' after another" 3 'bag: files' bag intake "$work/none taken" t1 "$work/whole" "$work/$folder"
-    expect "intake of '$folder' for no transfer" 3 'bag: files' bag intake "$work/none taken" t2 "$work/whole" "$work/$folder"
+    expect "intake of '$folder' after another" 3 'bag: files' \
+        bag intake "$work/none taken" t1 "$work/whole" "$work/$folder"
+    expect "intake of '$folder' for no transfer" 3 'bag: files' \
+        bag intake "$work/none taken" t2 "$work/whole" "$work/$folder"
 done
 expect 'a folder that can not be opened: nothing was taken' 1 "$both_missing" bag audit "$work/none taken" t1
 expect 'a link that leads to a folder' 0 '' ln -s whole "$work/a link"
 expect 'a link that leads to a folder: begin' 0 again bag begin "$work/none taken" t1 "$work/a link"
-expect 'a link that leads to a folder: intake' 0 $'taken data/a.txt\ntaken data/e.txt' bag intake "$work/none taken" t1 "$work/a link"
+expect 'a link that leads to a folder: intake' 0 $'taken data/a.txt\ntaken data/e.txt' \
+    bag intake "$work/none taken" t1 "$work/a link"
 
 # stays NAME FOLDER: an export leaves what already exists as it was.
 stays() {
@@ -412,7 +449,8 @@ expect 'names that begin alike: the bag' 0 $'valid\nvalid' same_bag "$work/alike
 # The longest path that can be opened from a folder with a one-letter name has 4,093 octets.
 name=$(printf 'k%.0s' {1..225})
 mkdir -p "$work/long/b/data"
-(cd "$work/long/b/data" && for _ in {1..18}; do mkdir "$name" && cd "$name" || exit; done && printf abc >"$(printf 'f%.0s' {1..18})")
+(cd "$work/long/b/data" && for _ in {1..18}; do mkdir "$name" && cd "$name" || exit; done \
+    && printf abc >"$(printf 'f%.0s' {1..18})")
 long_path=data/$(printf "$name/%.0s" {1..18})$(printf 'f%.0s' {1..18})
 but long/t manifest-sha256.txt "$a_sha256  $long_path\n"
 expect 'a long path: its octets' 0 4091 expr length "$long_path"
@@ -462,7 +500,8 @@ expect 'a file past the limit: begin' 0 new bag begin "$work/limit" past "$work/
 expect 'a file past the limit' 1 'refused data/A: too large' bag intake "$work/limit" past "$work/past"
 expect 'a file past the limit: the log is gone' 0 '' nothing "$work/limit-wal"
 expect 'a file past the limit: nothing is held' 0 '0 0' rows "$work/limit"
-expect 'a file past the limit: report' 1 $'manifest-md5.txt: missing: data/A\nnot complete' bag report "$work/limit" past
+expect 'a file past the limit: report' 1 $'manifest-md5.txt: missing: data/A\nnot complete' \
+    bag report "$work/limit" past
 # The digest of 1,073,741,824 octets 0 is that of md5sum.
 mv "$work/past" "$work/at"
 put "$work/at/manifest-md5.txt" $'cd573cfaace07e7949bc0c46028904ff  data/A\n'
@@ -471,12 +510,13 @@ expect 'a file at the limit: begin' 0 new bag begin "$work/limit" at "$work/at"
 expect 'a file at the limit' 0 'taken data/A' bag intake "$work/limit" at "$work/at"
 expect 'a file at the limit: all of it is held' 0 '1 16384' rows "$work/limit"
 expect 'a file at the limit: report' 0 valid bag report "$work/limit" at
-rm "$work/limit" "$work/at/data/A"
+expect 'a file at the limit: audit' 0 valid bag audit "$work/limit" at
+expect 'a file at the limit: export' 0 'exported 3 files' bag export "$work/limit" at "$work/at again"
+expect 'a file at the limit: the bag' 0 '' diff -r "$work/at" "$work/at again"
+rm -r "$work/limit" "$work/at/data/A" "$work/at again"
 
 # Files that may not be read or written.
 chmod 711 "$work"
-cp crates/bag_program/out/bag_program "$work/program"
-chmod a+rx "$work/program"
 mkdir "$work/open" "$work/locked"
 chmod 777 "$work/open"
 chmod 555 "$work/locked"
@@ -485,7 +525,8 @@ touch "$work/unread/data/z"
 chmod -R a+rX "$work/tags" "$work/unread" "$work/e"
 chmod 000 "$work/unread/data/a.txt" "$work/unread/data/z"
 expect 'as nobody' 0 new nobody "$work/program" begin "$work/open/ledger" t1 "$work/tags"
-expect 'payload files that may not be read: begin' 0 again nobody "$work/program" begin "$work/open/ledger" t1 "$work/unread"
+expect 'payload files that may not be read: begin' 0 again \
+    nobody "$work/program" begin "$work/open/ledger" t1 "$work/unread"
 expect 'payload files that may not be read: intake' 3 'refused data/a.txt: reader
 taken data/e.txt
 refused data/z: not listed' nobody "$work/program" intake "$work/open/ledger" t1 "$work/unread"
@@ -497,17 +538,22 @@ expect 'payload files that may not be read: report' 1 $'manifest-sha256.txt: mis
 chmod 000 "$work/unread/bagit.txt"
 expect 'a tag file that may not be read' 3 'bag: files' nobody "$work/program" begin "$work/open/new" t1 "$work/unread"
 expect 'a tag file that may not be read: no ledger is made' 0 '' nothing "$work/open/new"
-expect 'a tag file that may not be read, and no name' 1 'refused: name' nobody "$work/program" begin "$work/open/new" T1 "$work/unread"
+expect 'a tag file that may not be read, and no name' 1 'refused: name' \
+    nobody "$work/program" begin "$work/open/new" T1 "$work/unread"
 expect 'a folder that takes no ledger' 3 'bag: store' nobody "$work/program" begin "$work/locked/ledger" t1 "$work/tags"
-expect 'a folder that takes no bag' 3 'bag: files' nobody "$work/program" export "$work/open/ledger" t1 "$work/locked/bag"
+expect 'a folder that takes no bag' 3 'bag: files' \
+    nobody "$work/program" export "$work/open/ledger" t1 "$work/locked/bag"
 expect 'a folder that takes nothing: nothing is made' 0 '' below "$work/locked"
 new_tags fetched
 echo 'http://example.org/a - data/a.txt' >"$work/fetched/fetch.txt"
 chmod -R a+rX "$work/fetched"
-expect 'a supplier that may not be read: begin' 0 new nobody "$work/program" begin "$work/open/ledger" t3 "$work/fetched"
-expect 'a supplier that may not be read' 3 'refused data/a.txt: supplier' nobody "$work/program" fetch "$work/open/ledger" t3 "$work/unread"
+expect 'a supplier that may not be read: begin' 0 new \
+    nobody "$work/program" begin "$work/open/ledger" t3 "$work/fetched"
+expect 'a supplier that may not be read' 3 'refused data/a.txt: supplier' \
+    nobody "$work/program" fetch "$work/open/ledger" t3 "$work/unread"
 chmod 000 "$work/unread/data"
-expect 'a directory that may not be read: intake' 3 'bag: files' nobody "$work/program" intake "$work/open/ledger" t1 "$work/unread"
+expect 'a directory that may not be read: intake' 3 'bag: files' \
+    nobody "$work/program" intake "$work/open/ledger" t1 "$work/unread"
 expect 'a directory that may not be read: fetch' 3 'refused data/a.txt: supplier' \
     nobody "$work/program" fetch "$work/open/ledger" t3 "$work/unread"
 chmod 755 "$work/unread/data"
@@ -521,10 +567,10 @@ done
 expect 'a ledger that may not be read: no bag is made' 0 '' nothing "$work/open/new"
 
 # A full disk, and outputs that are closed or full.
-if unshare -m sh -c "mkdir '$work/disk' && mount -t tmpfs -o size=1m bag '$work/disk'" 2>"$work/no mount"; then
+if own_mounts sh -c "mkdir '$work/disk' && mount -t tmpfs -o size=1m bag '$work/disk'" 2>"$work/no mount"; then
     # on_disk: a transfer on a disk of 1 MiB, each command followed by its status.
     on_disk() {
-        unshare -m sh -c 'mount -t tmpfs -o size=1m bag "$1/disk" && cd "$1" || exit
+        own_mounts sh -c 'mount -t tmpfs -o size=1m bag "$1/disk" && cd "$1" || exit
             "$1/program" begin disk/ledger one "large again"; echo "$?"
             "$1/program" intake disk/ledger one "large again" 2>&1; echo "$?"
             "$1/program" report disk/ledger one; echo "$?"
@@ -544,7 +590,7 @@ exported 6 files
 0' on_disk
     # on_small_disk: an empty file, on a disk that has no room for a ledger. It stays empty, and no log is left.
     on_small_disk() {
-        unshare -m sh -c 'mount -t tmpfs -o size=16k bag "$1/disk" && cd "$1" && : >disk/ledger || exit
+        own_mounts sh -c 'mount -t tmpfs -o size=16k bag "$1/disk" && cd "$1" && : >disk/ledger || exit
             "$1/program" begin disk/ledger one tags 2>&1; echo "$?"
             stat -c "%n %s" disk/*' sh "$work"
     }
@@ -555,14 +601,16 @@ disk/ledger 0' on_small_disk
 else
     lacking 'a full disk (no permission to mount one)'
 fi
-expect 'an export that is cut short' 3 'bag: files' small_files "$work/program" export "$work/large ledger" one "$work/cut"
+expect 'an export that is cut short' 3 'bag: files' \
+    small_files "$work/program" export "$work/large ledger" one "$work/cut"
 expect 'an export that is cut short: what was written stays' 0 $'bagit.txt\nbag-info.txt\ndata/A' \
     env -C "$work/cut" sh -c 'find bagit.txt bag-info.txt data -type f'
 # After a failure of the store, what is not listed is told as that.
 cp -r "$work/large again" "$work/large and more"
 echo more >"$work/large and more/data/B"
 expect 'a ledger that cannot grow: begin' 0 new bag begin "$work/small ledger" one "$work/large again"
-expect 'a ledger that cannot grow, and a file that is not listed' 3 $'refused data/A: store\nrefused data/B: not listed' \
+expect 'a ledger that cannot grow, and a file that is not listed' 3 \
+    $'refused data/A: store\nrefused data/B: not listed' \
     small_files "$work/program" intake "$work/small ledger" one "$work/large and more"
 for output in closed full; do
     heard=("$output" bag)

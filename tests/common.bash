@@ -2,15 +2,18 @@
 # The functions that the test scripts share. A script sources this file in the root of the repository, calls `expect`
 # for each case, and ends with `finish`.
 
+# With this set Python would pass over what the scripts assert.
+unset PYTHONOPTIMIZE
 work=$(mktemp -d)
 trap 'rm -rf -- "$work"' EXIT
 passed=0
 failed=0
 
 # expect NAME STATUS LINES COMMAND..: the command ends with this status, prints these lines (none if LINES is empty) and
-# prints nothing on standard error, except for one line that explains one of these.
+# prints nothing on standard error, except for one line that explains one of these. How long it takes is told if that is
+# ten seconds or more.
 expect() {
-    local name=$1 wanted=$2 lines=$3 status=0
+    local name=$1 wanted=$2 lines=$3 status=0 start=$SECONDS
     shift 3
     "$@" </dev/null >"$work/printed" 2>"$work/said" || status=$?
     printf '%s' "${lines:+$lines$'\n'}" >"$work/wanted"
@@ -21,17 +24,27 @@ expect() {
         echo "FAILED: $name: status $status instead of $wanted; the end of what it said on standard error:"
         tail -n 20 "$work/said"
     fi
+    [ $((SECONDS - start)) -lt 10 ] || echo "took $((SECONDS - start)) s: $name"
 }
 
-# explained STATUS LINES: what was said on standard error is one line `bag: ..` if the lines say that folders, files or a
-# ledger can't be used, and otherwise nothing, or that a folder has no payload. FORMAT.md, section 14, says which lines
-# these are.
+# explained STATUS LINES: what was said on standard error is one line `bag: ..` if the lines say that folders, files or
+# a ledger can't be used, that a transfer is refused for its name, a large tag file or other tag files, or that an
+# algorithm is unknown; that or nothing if memory ran out; and otherwise nothing, that a folder has no payload, or that
+# the log of a ledger stays. FORMAT.md, section 14, says which lines these are.
 explained() {
-    if [ "$1" -ne 0 ] && grep -qxE 'bag: (files|tag too large|too large|too many|not a ledger)|.*: store' <<<"$2"; then
+    if [ "$1" -ne 0 ] && grep -qxE 'bag: (files|tag too large|too large|too many|not a ledger)|refused: (name|tag too large|differs)|.*: store' <<<"$2"; then
         [[ $(<"$work/said") == 'bag: '?* ]] && [ "$(wc -l <"$work/said")" -eq 1 ] && return
         cat "$work/said" && return 1
     fi
-    diff -u /dev/null <(grep -avx 'bag: .*: it has no payload file below data/' "$work/said")
+    if [ "$1" -eq 64 ] && [[ $2 == 'unknown algorithm '* ]]; then
+        diff -u <(echo 'bag: the algorithms are md5, sha1, sha256 and sha512') "$work/said"
+        return
+    fi
+    [ "$2" != 'bag: memory' ] || ! grep -qxE \
+        'bag: .*: it has [0-9]+ octets, and opening it takes as much memory and a little more' "$work/said" || return 0
+    diff -u /dev/null <(grep -avxE \
+        'bag: .*: (it has no payload file below data/|its log stays beside it, and both have to be kept .*)' \
+        "$work/said")
 }
 
 # explain NAME STATUS LINE COMMAND..: the command ends with this status, and says this line and nothing else on standard
@@ -73,7 +86,8 @@ below() {
     (cd "$1" && find . -mindepth 1 -printf '%P\0' | LC_ALL=C sort -z | tr '\n\0' '?\n')
 }
 
-# make_odd_names FOLDER: makes it, with files whose names want care: blanks, what is escaped, what a shell takes for a pattern.
+# make_odd_names FOLDER: makes it, with files whose names want care: blanks, what is escaped, what a shell takes for a
+# pattern.
 make_odd_names() {
     mkdir -p "$1/two  blanks"
     printf 1 >"$1/ first blank"
@@ -101,6 +115,11 @@ nobody() {
     fi
 }
 
+# own_mounts COMMAND..: runs the command where it may mount file systems of its own, and stops it after ten minutes.
+own_mounts() {
+    timeout 600 unshare -m "$@"
+}
+
 # closed COMMAND.. and full COMMAND..: the command with a closed standard output, and with a full one.
 closed() {
     "$@" >&-
@@ -116,20 +135,40 @@ small_files() (
     exec "$@"
 )
 
-# build_first: builds the program if necessary, so that ./bag runs that and not the released one. The output of a build
-# would disturb the first case.
-build_first() {
-    ./build || { echo "FAILED: ./build: status $?" && exit 1; }
+# program_sources: the sources of the crates that the program is made of, but for their tests.
+program_sources() {
+    local crates
+    crates=$(sed -n 's/^bag_program: //p' crates.txt | tr ' ' '\n' | grep '^bag_')
+    for crate in bag_program $crates; do
+        find "crates/$crate/src" -name '*.rt' ! -name 'tests.rt' ! -path '*/tests/*'
+    done | LC_ALL=C sort
+}
+
+# take_program: sets `program` to a copy of the program that ./bag runs, which anybody may run. It is built first if it
+# has to be, whose output would disturb the first case.
+take_program() {
+    program=$work/program
+    (top=$PWD && . ./program.sh && find_program && cp -- "$program" "$work/program" && chmod 755 "$work/program") ||
+        { echo "FAILED: there is no program: status $?" && exit 1; }
 }
 
 # build_driver: builds the driver if necessary, and sets `driver` to its name. Without arguments it ends with status 64.
+# If ONLY_BUILT is set, or without the kit, nothing is built, and the script is skipped.
 build_driver() {
     driver=crates/bag_driver/out/bag_driver
     if [ ! -x "$driver" ] || [ -n "$(find crates.txt crates/*/{src,specs,proofs} -newer "$driver" -print -quit)" ]; then
         local status=0
+        { [ -z "${ONLY_BUILT-}" ] && command -v rt >/dev/null; } || skip 'the driver is not built'
         (cd crates/bag_driver && rt run </dev/null >"$work/printed" 2>&1) || status=$?
         [ "$status" -eq 64 ] || { cat "$work/printed" && echo "FAILED: the driver was not built" && exit 1; }
     fi
+}
+
+# skip TEXT: ends the script, which tries nothing, and TEXT says why. If CI is set to true, that is a failure.
+skip() {
+    lacking "$1"
+    [ "$failed" -eq 0 ] || exit 1
+    exit 77
 }
 
 # lacking TEXT..: some cases are skipped, and TEXT says which and why. If CI is set to true, that is a failure.

@@ -1,19 +1,21 @@
 #!/usr/bin/env python3
-"""crashes.py DRIVER TRIED: stops work on a ledger before each call of each of the two files of its database, and judges what is left.
-What was tried is written to TRIED.
+"""crashes.py DRIVER TRIED: stops work on a ledger before each call of each of the two files of its database, and judges
+what is left. What was tried is written to TRIED.
 
-The driver is run as `DRIVER stop FILE CALLS HOW SEED DATABASE`. It opens the ledger in the database or makes one, answers the events
-on standard input (tests/deliveries.py describes them), and closes it. FILE (`log` or `database`) accepts CALLS calls and fails from
-then on. Then the driver leaves in DATABASE, and in the log next to it, what a stop at this moment leaves: if HOW is `cut`, as after a
-power cut, only what a sync had reached, and if it is `killed` all that was written. It prints `opened` or why it isn't, the answers,
-and `closed` or `not closed`. SEED is a number for the log.
+The driver is run as `DRIVER stop FILE CALLS HOW SEED DATABASE`. It opens the ledger in the database or makes one,
+answers the events on standard input (tests/deliveries.py describes them), and closes it. FILE (`log` or `database`)
+accepts CALLS calls and fails from then on. Then the driver leaves in DATABASE, and in the log next to it, what a stop
+at this moment leaves: if HOW is `cut`, as after a power cut, only what a sync had reached, and if it is `killed` all
+that was written. It prints `opened` or why it isn't, the answers, and `closed` or `not closed`. SEED is a number for
+the log.
 
-The work opens two transfers, and puts payload files by readers, in runs and from couriers. Its steps are that the ledger is made, that
-a transfer is opened, and each delivery. After a stop sqlite3 reads what is left, file by file and octet by octet. tests/reference_receiver.py
-says what there is after each step: it must be what there was after the last step that was answered, or after the next one. Then the
-same work is given again, without a stop; each answer is that of the second program, and both transfers are valid, also if they are
-audited. In the same way the opening of ledgers that were closed, killed or cut off is stopped, which must leave them as they were; and
-the opening of a ledger of format 1, which must leave it in the one format or in the other.
+The work opens three transfers, and puts payload files by readers, in runs, from couriers and from suppliers. Its steps
+are that the ledger is made, that a transfer is opened, and each delivery. After a stop sqlite3 reads what is left, file
+by file and octet by octet. tests/reference_receiver.py says what there is after each step: it must be what there was
+after the last step that was answered, or after the next one. Then the same work is given again, without a stop; each
+answer is that of the second program, and all transfers are valid, also if they are audited. In the same way the opening
+of ledgers that were closed, killed or cut off is stopped, which must leave them as they were; and the opening of a
+ledger of format 1, which must leave it in the one format or in the other.
 """
 import hashlib
 import itertools
@@ -33,7 +35,11 @@ DECLARATION = b"BagIt-Version: 1.0\nTag-File-Character-Encoding: UTF-8\n"
 # The tables of format 1, and those of format 2 in a new ledger and in one that was moved.
 FIRST, SECOND = ["item", "meta", "tag", "transfer"], ["held", "meta", "piece", "tag", "transfer"]
 MOVED = sorted({*FIRST, *SECOND})
-OWNERS = {"tag": ("transfer", "transfer"), "item": ("transfer", "transfer"), "held": ("transfer", "transfer"), "piece": ("item", "held")}
+OWNERS = {"tag": ("transfer", "transfer"), "item": ("transfer", "transfer"), "held": ("transfer", "transfer"),
+    "piece": ("item", "held")}
+NAMES = [b"first", b"second", b"third"]
+# Events that make several deliveries, each with an answer of its own.
+RUNS = ["run", "bring-first", "fetch"]
 NEVER = 2**64 - 1
 PIECE = 65_536
 # How far apart the stops of the opening of a larger ledger are, in calls.
@@ -52,10 +58,13 @@ def work():
     """The events."""
     rng = random.Random(1)
     large = (b"data/a", rng.randbytes(2 * PIECE + 1))
-    small = [(b"data/%d" % n, rng.randbytes(size)) for n, size in enumerate([0, 1, 2_048, 2_048, 5_000, PIECE, 70_000, 0, 300, 9])]
+    small = [(b"data/%d" % n, rng.randbytes(size))
+        for n, size in enumerate([0, 1, 2_048, 2_048, 5_000, PIECE, 70_000, 0, 300, 9])]
     others = [(b"data/a", b"other"), ("data/\u00e9\n%".encode(), b"")]
     spelled = [(path.replace(b"%", b"%25").replace(b"\n", b"%0A"), octets) for path, octets in others]
     first = tag_files([large, *small], (b"notes/odd", rng.randbytes(PIECE + 1)), (b"empty", b""))
+    fetched = [(b"data/f", rng.randbytes(70_000)), (b"data/g", b"g")]
+    fetch = b"".join(b"http://example.org/ - %s\n" % path for path, _ in fetched)
     fields = lambda files: [field for file in files for field in file]
     return [
         ("begin", b"first", *fields(first)),
@@ -64,15 +73,21 @@ def work():
         ("run", b"first", *fields([*small, small[2], (b"data/1", b"x")])),
         ("begin", b"second", *fields(tag_files(spelled))),
         ("bring-first", b"second", *fields([(b"data/a", b"oth"), *others])),
+        ("begin", b"third", *fields(tag_files(fetched, (b"fetch.txt", fetch)))),
+        ("fetch", b"third", b"data/f", b"f", *fetched[1]),
+        ("fetch", b"third", *fetched[0]),
         ("report", b"first"),
         ("audit", b"second"),
         ("names",),
     ]
 
 
-def parts(word, text):
-    """The answers to the deliveries of a run, each alone; the answer to another event is one."""
-    return text.split(" | ") if word in ("run", "bring-first") else [text]
+def parts(event, text):
+    """The answers to the deliveries of a run, each alone; the answer to another event is one. A fetch may fail before
+    it asks for any of its files."""
+    if event[0] == "fetch" and text == "refused: store":
+        return [text] * (len(event) // 2)
+    return text.split(" | ") if event[0] in RUNS else [text]
 
 
 def ledger_of(receiver):
@@ -80,27 +95,41 @@ def ledger_of(receiver):
 
 
 def each_alone(event):
-    """The event as several, each with one delivery, if it is a run."""
+    """The event as several, each with one delivery, if it makes several of them."""
     word, *fields = event
-    if word not in ("run", "bring-first"):
+    if word not in RUNS:
         return [event]
     files = list(zip(fields[1::2], fields[2::2]))
     first = "break" if word == "bring-first" else "deliver"
     return [(first if place == 0 else "deliver", fields[0], *file) for place, file in enumerate(files)]
 
 
+def fetch(receiver, name, supply):
+    """For each entry of `fetch.txt` whose file isn't held its answer."""
+    transfer = receiver.transfers[name]
+    for number, path in enumerate(transfer.fetch, 1):
+        if path not in transfer.held:
+            yield f"{number} {path.decode()} {receiver.deliver(name, path, supply[path])}"
+
+
 def steps(receiver, events):
     """For each step its answer, and what is held after it. The end of a run is a step too."""
     for event in events:
-        for one in each_alone(event):
-            yield answer(receiver, *one), ledger_of(receiver)
-        if event[0] in ("run", "bring-first"):
+        if event[0] == "fetch":
+            answers = fetch(receiver, event[1], dict(zip(event[2::2], event[3::2])))
+        else:
+            answers = (answer(receiver, *one) for one in each_alone(event))
+        for text in answers:
+            yield text, ledger_of(receiver)
+        if event[0] in RUNS:
             yield "done", ledger_of(receiver)
 
 
 def found(database):
-    """What is held in the ledger by sqlite3, which reads a copy; None if there are no tables. Each row belongs to something."""
-    # The first page of a new database is written with another first octet, which sqlite3 doesn't accept, and that octet comes last.
+    """What is held in the ledger by sqlite3, which reads a copy; None if there are no tables. Each row belongs to
+    something."""
+    # The first page of a new database is written with another first octet, which sqlite3 doesn't accept, and that octet
+    # comes last.
     if database.read_bytes()[:16] == b"\0QLite format 3\0":
         assert database.stat().st_size <= 4_096
         return None
@@ -132,7 +161,8 @@ def rows(ask):
         tags = {path.encode(): body for path, body in ask("SELECT path, body FROM tag WHERE transfer = ?", transfer)}
         ledger[name.encode()] = tags, {}
         if number == 1:
-            ledger[name.encode()][1].update((path.encode(), body) for path, body in ask("SELECT path, body FROM item WHERE transfer = ?", transfer))
+            ledger[name.encode()][1].update((path.encode(), body)
+                for path, body in ask("SELECT path, body FROM item WHERE transfer = ?", transfer))
             continue
         for item, path, size in ask("SELECT id, path, size FROM held WHERE transfer = ?", transfer):
             ledger[name.encode()][1][path.encode()] = content(ask, item, size)
@@ -152,22 +182,25 @@ def run(driver, database, events, stop=("log", NEVER, "killed"), seeds=itertools
     """The lines that the driver prints."""
     file, calls, how = stop
     words = [driver, "stop", file, str(calls), how, str(next(seeds)), database]
-    ran = subprocess.run(words, input="".join(f"{line(event)}\n" for event in events).encode(), capture_output=True, timeout=60, check=False)
+    ran = subprocess.run(words, input="".join(f"{line(event)}\n" for event in events).encode(), capture_output=True,
+        timeout=60, check=False)
     assert ran.returncode == 0 and not ran.stderr, (stop, ran)
     return ran.stdout.decode().split("\n")[:-1]
 
 
 def answered(events, printed, wanted):
-    """How many steps were answered, the opening included. From the first that wasn't, no answer may promise anything."""
+    """How many steps were answered, the opening included. From the first that wasn't, no answer may promise
+    anything."""
     if printed == ["the store failed"]:
         return 0
     assert printed[0] == "opened" and len(printed) == len(events) + 2, printed
-    given = [part for event, text in zip(events, printed[1:]) for part in parts(event[0], text)]
+    given = [part for event, text in zip(events, printed[1:]) for part in parts(event, text)]
     assert len(given) == len(wanted), (given, wanted)
     number = next((place for place, (text, _) in enumerate(wanted) if given[place] != text), len(given))
     for place in range(number, len(given)):
         changes = wanted[place][1] != wanted[place - 1][1] if place else True
-        assert given[place] == "refused: store" or (given[place] == wanted[place][0] and not changes), (place, given[place])
+        assert given[place].endswith("refused: store") or (given[place] == wanted[place][0] and not changes), (
+            place, given[place])
     return 1 + number
 
 
@@ -182,12 +215,12 @@ def known(ledger):
 
 def again(driver, database, left, events):
     """Does the whole work once more with no stop: each answer is right, and in the end everything is held."""
-    more = [*events, *((word, name) for word in ("report", "audit") for name in (b"first", b"second"))]
+    more = [*events, *((word, name) for word in ("report", "audit") for name in NAMES)]
     receiver = known(left)
     wanted = list(steps(receiver, more))
     printed = run(driver, database, more)
     assert answered(more, printed, wanted) == 1 + len(wanted) and printed[-1] == "closed", printed
-    assert printed[-5:-1] == ["valid"] * 4, printed
+    assert printed[-7:-1] == ["valid"] * 6, printed
     assert found(database) == ledger_of(receiver)
 
 
@@ -232,8 +265,8 @@ def remove(database):
 
 
 def stop_openings(driver, folder, kept, tried):
-    """Stops the opening and closing of the first ledger at each call, and of the others at some. It leaves what there was; without
-    tables a ledger may be made."""
+    """Stops the opening and closing of the first ledger at each call, and of the others at some. It leaves what there
+    was; without tables a ledger may be made."""
     events = [("names",), ("audit", b"first"), ("audit", b"second")]
     for place, (start, left) in enumerate(kept):
         wanted = list(steps(known(left), events))
@@ -244,10 +277,12 @@ def stop_openings(driver, folder, kept, tried):
                 printed = run(driver, database, events, (file, calls, how))
                 number = answered(events, printed, wanted)
                 after = found(database)
-                assert after == left or (left is None and after == {} and number <= 1) or (left is None and number), (start, file, calls, how)
+                assert after == left or (left is None and after == {} and number <= 1) or (left is None and number), (
+                    start, file, calls, how)
                 tried["openings"] += 1
                 whole = run(driver, database, events)
-                assert answered(events, whole, wanted) == 1 + len(wanted) and whole[-1] == "closed", (start, file, calls, how, whole)
+                assert answered(events, whole, wanted) == 1 + len(wanted) and whole[-1] == "closed", (
+                    start, file, calls, how, whole)
                 assert found(database) == (left or {}), (start, file, calls, how)
                 remove(database)
                 if printed[-1] == "closed":
@@ -287,7 +322,8 @@ def stop_moves(driver, folder, tried):
             assert not number or number_of_format(database) == 2, (file, calls, how)
             tried["moves"] += 1
             whole = run(driver, database, events)
-            assert answered(events, whole, wanted) == 1 + len(wanted) and whole[-1] == "closed", (file, calls, how, whole)
+            assert answered(events, whole, wanted) == 1 + len(wanted) and whole[-1] == "closed", (
+                file, calls, how, whole)
             assert found(database) == held and number_of_format(database) == 2, (file, calls, how)
             remove(database)
             if printed[-1] == "closed":
@@ -296,7 +332,8 @@ def stop_moves(driver, folder, tried):
 
 
 def count_rows(driver, folder):
-    """Readers and couriers that fail, one after another, and the rows of payload files and of pieces after each. Returns how many."""
+    """Readers and couriers that fail, one after another, and the rows of payload files and of pieces after each.
+    Returns how many."""
     octets = random.Random(2).randbytes(2 * PIECE + 1)
     changed = octets[:-1] + bytes([octets[-1] ^ 1])
     files = tag_files([(b"data/a", octets), (b"data/b", b"b")])
@@ -332,11 +369,14 @@ def main(driver, tried_file):
         stop_openings(driver, pathlib.Path(folder), kept, tried)
         stop_moves(driver, pathlib.Path(folder), tried)
     assert tried["more"] and tried["closings"], tried
-    assert any(left is None for _, left in kept) and any(left and len(left) == 2 for _, left in kept), [left and len(left) for _, left in kept]
+    assert any(left is None for _, left in kept) and any(left and len(left) == len(NAMES) for _, left in kept), [left
+        and len(left) for _, left in kept]
     with open(tried_file, "w", encoding="ascii") as out:
         print(
-            f"{tried['stops']} stops of the work, {tried['closings']} of them while it was closed, and after {tried['more']} a step is held"
-            f" that wasn't answered; {tried['openings']} stops while one of {len(kept)} ledgers was opened or closed; {tried['moves']} while one of format 1 was opened;"
+            f"{tried['stops']} stops of the work, {tried['closings']} of them while it was closed,"
+            f" and after {tried['more']} a step is held that wasn't answered;"
+            f" {tried['openings']} stops while one of {len(kept)} ledgers was opened or closed;"
+            f" {tried['moves']} while one of format 1 was opened;"
             f" {rows} counts of rows",
             file=out,
         )

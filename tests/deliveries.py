@@ -1,11 +1,11 @@
 #!/usr/bin/env python3
-"""deliveries.py COUNT SEED DRIVER: makes COUNT random lists of deliveries, has the driver answer them all in one process, and
-compares its output with the answers of tests/reference_receiver.py. The same seed makes the same lists. The first answer that
-differs is reported with its list. Without DRIVER it prints the lists as the driver reads them, and with `--answers` in its
-place the expected output.
+"""deliveries.py COUNT SEED DRIVER: makes COUNT random lists of deliveries, has the driver answer them all in one
+process, and compares its output with the answers of tests/reference_receiver.py. The same seed makes the same lists.
+The first answer that differs is reported with its list. Without DRIVER it prints the lists as the driver reads them,
+and with `--answers` in its place the expected output.
 
-The driver reads events from standard input, one per line, and prints one line for each. An event is a word followed by its
-fields, each after one blank:
+The driver reads events from standard input, one per line, and prints one line for each. An event is a word followed by
+its fields, each after one blank:
 
     start                                      begins a list: from here on no transfer is open
     begin NAME PATH OCTETS PATH OCTETS ..      tag files, in the order in which they are given; there may be none
@@ -21,16 +21,16 @@ fields, each after one blank:
     names
     reopen                                     the ledger is given up and opened again
 
-A field is its octets in lowercase hex, or `-` if it is empty. Names and paths are UTF-8, and a path isn't spelled. The output,
-following section 16 of docs/FORMAT.md:
+A field is its octets in lowercase hex, or `-` if it is empty. Names and paths are UTF-8, and a path isn't spelled. The
+output, following section 16 of docs/FORMAT.md:
 
     start      `started`
-    begin      `new`, `again`, or `refused: ` and `name`, `tag path N`, `tag too large PATH`, the line of section 12, the line of
-               a fault, `clash PATH` or `differs`
-    deliver    `taken`, `repeated`, or `refused: ` and `no transfer`, `path`, `not listed`, `too large`, `length` or `digest ALG`;
-               `read` and `break` too, which may be refused by `reader`
-    run        the answers to its deliveries, and then `done` or `too many`, joined by ` | `; `bring` and its kinds too, which may
-               end with `courier`
+    begin      `new`, `again`, or `refused: ` and `name`, `tag path N`, `tag too large PATH`, the line of section 12,
+               the line of a fault, `clash PATH` or `differs`
+    deliver    `taken`, `repeated`, or `refused: ` and `no transfer`, `path`, `not listed`, `too large`, `length` or
+               `digest ALG`; `read` and `break` too, which may be refused by `reader`
+    run        the answers to its deliveries, and then `done` or `too many`, joined by ` | `; `bring` and its kinds too,
+               which may end with `courier`
     report     the lines of the faults, and then `valid`, `complete, not valid` or `not complete`, joined by ` | `;
                or `refused: no transfer`; `audit` too
     reopen     `opened`
@@ -49,7 +49,8 @@ from reference_receiver import Receiver
 
 GOOD_NAMES = [b"t1", b"t10", b"t2", b"0", b"-", b"a-long-name", b"z" * 64]
 BAD_NAMES = [b"", b"T1", b"z" * 65, b"t 1", b"t_1", b"t1\n", b"\0", b"t/1", "\u00e9".encode(), "\u0663".encode()]
-BAD_PATHS = [b"", b"data", b"data/", b"data//k", b"data/../k", b"data/.", b"/data/a.txt", b".", b"..", b"data/a\0", b"\0", b"note/",
+BAD_PATHS = [b"", b"data", b"data/", b"data//k", b"data/../k", b"data/.", b"/data/a.txt", b".", b"..", b"data/a\0",
+             b"\0", b"note/",
              b"data/" + b"n" * 4092]
 UNLISTED_PATHS = [b"data/z", b"data/a.txt ", b"data/%41", b"Data/a.txt", b"a.txt", b"bagit.txt", b"data/" + b"n" * 4091]
 # Paths, some of which are the folders of others.
@@ -74,8 +75,9 @@ def changed(rng, octets):
     if octets in TWINS and sometimes(rng, 60):
         return TWINS[octets == TWINS[0]]
     return rng.choice([
-        octets + b"x", octets[:-1], octets[1:] + b"\n", b"", bytes([octets[0] ^ 32]) + octets[1:] if octets else b"\xff",
-        octets + b"\n" + octets.split(b"\n")[0], octets.replace(b"manifest-", b"tagmanifest-")])
+        octets + b"x", octets[:-1], octets[1:] + b"\n", b"",
+        bytes([octets[0] ^ 32]) + octets[1:] if octets else b"\xff", octets + b"\n" + octets.split(b"\n")[0],
+        octets.replace(b"manifest-", b"tagmanifest-")])
 
 
 class Offer:
@@ -146,7 +148,8 @@ class Offer:
         files[:] = [(path, octets if path == b"bagit.txt" else own) for path, own in files]
 
     def lengthen(self, files, _):
-        """One or two files, existing or not, get the maximum number of lines or one more; now and then one gets an octet too many."""
+        """One or two files, existing or not, get the maximum number of lines or one more; now and then one gets an
+        octet too many."""
         texts = [b"\n" * 100000, b"\r\n" * 99999 + b"x", b"\r\n" * 100000 + b"x", b"\r" * 100001, b"\n" * 100001]
         names = [b"manifest-md5.txt", b"tagmanifest-sha512.txt", b"fetch.txt", b"bag-info.txt", b"manifest-zz.txt"]
         longer = {name: self.rng.choice(texts) for name in self.rng.sample(names, self.rng.choice([1, 2]))}
@@ -162,7 +165,8 @@ class Offer:
         others = [*BAD_PATHS, *UNLISTED_PATHS, path + b"/x", path.upper(), path[5:]]
         other_path, _ = self.rng.choice(self.payload or [(path, octets)])
         return self.rng.choice([(path, octets)] * 5 + [
-            (path, changed(self.rng, octets)), (path, content(self.rng)), (other_path, octets), (self.rng.choice(others), octets)])
+            (path, changed(self.rng, octets)), (path, content(self.rng)), (other_path, octets),
+            (self.rng.choice(others), octets)])
 
     def everything(self):
         """All payload files in some order, some of them twice."""
@@ -258,8 +262,8 @@ def kinds():
     """Every kind of answer that can occur in lists of this size."""
     others = {"no data directory", "manifest: digest", "fetch.txt:N: length", "bag: files", "complete, not valid"}
     return [shape for shape in random_bags.shapes() if shape not in others] + [
-        "new", "again", "name", "tag path", "tag too large", "clash", "differs", "taken", "repeated", "no transfer", "path",
-        "not listed", "length", "digest", "reader", "done", "courier", "started", "opened"]
+        "new", "again", "name", "tag path", "tag too large", "clash", "differs", "taken", "repeated", "no transfer",
+        "path", "not listed", "length", "digest", "reader", "done", "courier", "started", "opened"]
 
 
 def kinds_of(text):
@@ -277,7 +281,8 @@ def difference(seed, wanted, ran):
     for place, (number, at, text) in enumerate(places):
         if printed[place:place + 1] != [text]:
             events = made(seed, number)[:at + 1]
-            told = f"List {number} of seed {seed}, event {at}: {printed[place:place + 1]} is printed instead of {[text]}."
+            given = printed[place:place + 1]
+            told = f"List {number} of seed {seed}, event {at}: {given} is printed instead of {[text]}."
             return "\n".join([told, end, str(events[-1])[:1000], "The list up to there:", *map(line, events)])
     if printed[len(places):] != [""] or ran.stderr or ran.returncode:
         return f"All are answered alike, but after the last line feed {printed[len(places):]} is printed. {end}"

@@ -1,7 +1,7 @@
 #!/usr/bin/env bash
-# Worked cases, and random lists of deliveries, with losses, repeats, damage and other transfers in between. The receiver
-# answers them as a second program does, with a map and with a database, both in memory. Then random ledgers, which are
-# opened again.
+# Worked cases, and random lists of deliveries, with losses, repeats, damage and other transfers in between. The
+# receiver answers them as a second program does, with a map and with a database, both in memory. Then random ledgers,
+# which are opened again.
 set -u
 cd "$(dirname -- "$0")/.." || exit 1
 . tests/common.bash
@@ -21,6 +21,7 @@ for keeper in map sqlite; do
 done
 expect 'random lists of deliveries, over a database' 0 '10000 lists of 166738 events: all answered alike' \
     env TMPDIR="$work" python3 -B tests/deliveries.py 10000 1 "$driver" calls sqlite
-expect 'random ledgers that are opened again' 0 '1000 ledgers with 2575 transfers, opened again 3065 times: all answered alike' \
+expect 'random ledgers that are opened again' 0 \
+    '1000 ledgers with 2575 transfers, opened again 3065 times: all answered alike' \
     env TMPDIR="$work" python3 -B tests/reopened.py 1000 1 "$driver" calls sqlite
 finish

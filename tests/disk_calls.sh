@@ -1,29 +1,24 @@
 #!/usr/bin/env bash
-# Which functions of the program remove, empty, write, rename, make or lock what is on disk, and who says what files hold: these, as
-# the sources have it, and no other. What each of them requires is proved; that there is no further one is in no contract.
+# Which functions of the program remove, empty, write, rename, make or lock what is on disk, and who says what files
+# hold: these, as the sources have it, and no other. What each of them requires is proved; that there is no further one
+# is in no contract.
 set -u
 cd "$(dirname -- "$0")/.." || exit 1
 . tests/common.bash
 
-# The crates that the program is made of, but for their tests.
-crates=$(sed -n 's/^bag_program: //p' crates.txt | tr ' ' '\n' | grep '^bag_')
-for crate in bag_program $crates; do
-    find "crates/$crate/src" -name '*.rt' ! -name 'tests.rt' ! -path '*/tests/*'
-done | LC_ALL=C sort >"$work/sources"
-
 # Each call with the function that it stands in, and what is removed.
-xargs awk '
+program_sources | xargs awk '
     /^ *(pub |pub\(crate\) )?fn / { match($0, /fn [a-z_]+/); name = substr($0, RSTART + 3, RLENGTH - 3); next }
-    match($0, /(remove_file|remove_dir|remove_dir_all|set_len|rename|hard_link|soft_link|create_new|create_dir|create_dir_all|::copy|::write|fs::create|sqlite_std_file::open)\(|File::create(_new)?|OpenOptions::new\(|set_permissions\(|write_all\(|write_at\(|write_all_at\(|\.write\(|\.append\(|truncate\(|[ :](Unknown|Wary)\)/) {
+    match($0, /(remove_file|remove_dir|remove_dir_all|set_len|rename|hard_link|soft_link|create_new|create_dir|create_dir_all|::copy|::write|fs::create|sqlite_std_file::open)\(|File::create(_new)?|OpenOptions::new\(|set_permissions\(|write_all\(|write_at\(|write_all_at\(|\.write\(|\.append\(|truncate\(|[ :](Unknown|Wary)[,)]/) {
         call = substr($0, RSTART, RLENGTH)
         rest = substr($0, RSTART + RLENGTH)
-        gsub(/[ :]*\(?$|^[ :]+|\)$/, "", call)
+        gsub(/[ :]*\(?$|^[ :]+|[,)]$/, "", call)
         file = FILENAME
         sub(/^crates\//, "", file)
         sub(/src\//, "", file)
-        sub(/\);$/, "", rest)
+        sub(/\);?$/, "", rest)
         print file, name, call (call == "remove_file" ? " " rest : "")
-    }' <"$work/sources" >"$work/calls"
+    }' >"$work/calls"
 
 cat >"$work/known" <<'KNOWN'
 bag_folder/destination.rt give_up remove_dir
@@ -43,6 +38,11 @@ bag_program/ledgers/ledger_handle.rt empty set_len
 bag_program/ledgers/locked_file.rt remove_copied_log remove_file self.rt, self.seen.log()
 bag_program/ledgers/locking.rt open_locked sqlite_std_file::open
 bag_program/main.rt main Unknown
+bag_program/terminal.rt write write_all
+bag_program/terminal.rt write .write
+bag_program/terminal.rt write_all write_all
+bag_program/terminal.rt write_shown write_all
+bag_program/terminal.rt write_escaped write_all
 bag_program/watched.rt write .write
 bag_receiver/export.rt write_content .write
 bag_writer/copying.rt copy_piece .write

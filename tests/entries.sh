@@ -5,10 +5,8 @@ set -u
 cd "$(dirname -- "$0")/.." || exit 1
 . tests/common.bash
 
-build_first
+take_program
 chmod 711 "$work"
-cp crates/bag_program/out/bag_program "$work/program"
-chmod a+rx "$work/program"
 
 # bag ARGUMENT..: runs the program, which must not wait for anything.
 bag() {
@@ -52,8 +50,8 @@ fresh() {
     if [ $# -eq 0 ]; then mkdir "$place"; else cp -r -- "$1" "$place"; fi
 }
 
-# listed FOLDER..: all that is below the folders, with types, modes, inodes, lengths and times, what links lead to, and the
-# digests of files.
+# listed FOLDER..: all that is below the folders, with types, modes, inodes, lengths and times, what links lead to, and
+# the digests of files.
 listed() {
     {
         find "$@" -mindepth 1 -printf '%p %y %m %i %s %T@ %l\n' | LC_ALL=C sort
@@ -193,7 +191,8 @@ for name in / //; do
     keeps "fetch from the root as $name" 1 'refused data/k/f: not supplied' bag fetch "$work/other holes" t1 "$name"
 done
 cp "$work/holes before" "$work/other holes"
-keeps 'fetch from the folder itself' 0 'taken data/k/f' env -C "$place" timeout 20 "$work/program" fetch "$work/other holes" t1 .
+keeps 'fetch from the folder itself' 0 'taken data/k/f' env -C "$place" timeout 20 "$work/program" fetch \
+    "$work/other holes" t1 .
 
 # opening NAME STATUS LINES COMMAND..: as `expect`; what the command opens is in the file `calls`.
 opening() {
@@ -206,10 +205,12 @@ unopened() {
     opening "$@"
     expect "$1: nothing is opened" 1 '' grep -F /odd "$work/calls"
 }
-# opened_once NAME FOLDER TEST..: of the files in the folder those of which this test of find holds were opened, each once.
+# opened_once NAME FOLDER TEST..: of the files in the folder those of which this test of find holds were opened, each
+# once.
 opened_once() {
     (cd "$2" && find . -type f "${@:3}" -printf '%P\n' | LC_ALL=C sort) >"$work/wanted opened"
-    grep -vF O_DIRECTORY "$work/calls" | sed -n "s|.*openat(AT_FDCWD, \"$2/\([^\"]*\)\".*|\1|p" | LC_ALL=C sort >"$work/opened"
+    grep -vF O_DIRECTORY "$work/calls" | sed -n "s|.*openat(AT_FDCWD, \"$2/\([^\"]*\)\".*|\1|p" \
+        | LC_ALL=C sort >"$work/opened"
     expect "$1: each file is opened once" 0 '' diff "$work/wanted opened" "$work/opened"
 }
 # most_open FOLDER: how many files of the folder were open at a time, at most.
@@ -235,9 +236,11 @@ if strace -o "$work/calls" true 2>"$work/no strace"; then
     for folder in "$many" "$made"; do
         expect 'make: files that are open at a time' 0 32 most_open "$folder"
     done
-    opening 'one at a time: make by SHA-512' 0 'made 73 files, 600210 octets' make "$many" "$work/seventy by sha512" sha512
+    opening 'one at a time: make by SHA-512' 0 'made 73 files, 600210 octets' make "$many" "$work/seventy by sha512" \
+        sha512
     expect 'make by SHA-512: files that are open at a time' 0 1 most_open "$many"
-    (cd "$made" && sed 's|^[^ ]*  |http://example.org/ - |' manifest-md5.txt >fetch.txt && echo note >note && rm tagmanifest-md5.txt)
+    (cd "$made" && sed 's|^[^ ]*  |http://example.org/ - |' manifest-md5.txt >fetch.txt && echo note >note \
+        && rm tagmanifest-md5.txt)
     (cd "$made" && sha256sum bag-info.txt bagit.txt fetch.txt manifest-*.txt >tagmanifest-sha256.txt)
     opening 'opened once: check' 0 valid check "$made"
     opened_once 'check, which reads no file that is not listed' "$made" ! -name note
@@ -325,7 +328,8 @@ expect 'a ledger below a link to a folder' 0 new bag begin "$outside/linked/ledg
 expect 'a ledger below a link to a folder: it is in the folder' 0 t1 bag list "$place/folder/ledger"
 
 # The log beside a ledger. What else is in its place is not followed, and stays.
-for kind in 'a folder' 'a link to a file' 'a link to a folder' 'a link to nothing' 'a link to a fifo' "${specials[@]}"; do
+for kind in 'a folder' 'a link to a file' 'a link to a folder' 'a link to nothing' 'a link to a fifo' \
+    "${specials[@]}"; do
     fresh
     cp "$ledger" "$place/ledger"
     put "$kind" "$place/ledger-wal"
@@ -376,7 +380,8 @@ put 'a link to a folder' "$place/odd"
 expect 'export of no transfer below a link to a folder' 1 'bag: no transfer' bag export "$ledger" t2 "$place/odd/new"
 expect 'export of no transfer below a link to a folder: nothing is made' 0 '' nothing "$outside/folder/new"
 expect 'export below a link to a folder' 0 'exported 2 files' bag export "$ledger" t1 "$place/odd/new"
-expect 'export below a link to a folder: the files' 0 $'bagit.txt\ndata\nmanifest-sha256.txt' below "$outside/folder/new"
+expect 'export below a link to a folder: the files' 0 $'bagit.txt\ndata\nmanifest-sha256.txt' \
+    below "$outside/folder/new"
 rm -r "$outside/folder/new"
 expect 'make below a link to a folder' 0 'made 1 files, 3 octets' bag make "$work/letters" "$place/odd/new" md5
 expect 'make below a link to a folder: the bag' 0 valid bag check "$outside/folder/new"
@@ -404,7 +409,8 @@ chmod 777 "$open"
 as=(nobody "$work/program")
 expect 'as nobody: a transfer' 0 new "${as[@]}" begin "$open/ledger" t1 "$work/tags"
 locked
-expect 'as nobody: nothing is locked' 1 $'manifest-sha256.txt: unlisted: data/k/f\nnot complete' "${as[@]}" check "$place"
+expect 'as nobody: nothing is locked' 1 $'manifest-sha256.txt: unlisted: data/k/f\nnot complete' \
+    "${as[@]}" check "$place"
 for name in . data data/k tags tags/k 111=. 111=data/k 111=tags 444=tags; do
     locked "$name"
     keeps "check with a locked folder $name" 3 'bag: files' "${as[@]}" check "$place"
@@ -429,7 +435,8 @@ done
 fresh
 mkdir -p "$place/data/k/f"
 chmod 000 "$place/data/k/f"
-keeps 'fetch with a locked folder in place of the file' 3 'refused data/k/f: supplier' "${as[@]}" fetch "$open/holes" t1 "$place"
+keeps 'fetch with a locked folder in place of the file' 3 'refused data/k/f: supplier' "${as[@]}" fetch "$open/holes" \
+    t1 "$place"
 fresh
 printf abc >"$place/data"
 chmod 000 "$place/data"
@@ -479,7 +486,8 @@ keeps 'make of a folder that takes nothing: it is removed again' 3 'bag: files' 
     masked "${as[@]}" make "$work/letters" "$place/new" md5
 keeps 'export into a folder that takes nothing: it is removed again' 3 'bag: files' \
     masked "${as[@]}" export "$open/ledger" t1 "$place/new"
-expect 'begin of a ledger that can not be opened again' 3 'bag: store' masked "${as[@]}" begin "$place/new" t1 "$work/tags"
+expect 'begin of a ledger that can not be opened again' 3 'bag: store' \
+    masked "${as[@]}" begin "$place/new" t1 "$work/tags"
 expect 'begin of a ledger that can not be opened again: it stays' 0 new below "$place"
 expect 'begin of a ledger that can not be opened again: it is empty' 0 0 stat -c %s "$place/new"
 
@@ -531,8 +539,8 @@ expect 'a long name of a ledger' 0 new bag begin "$long/${letters:8}" t1 "$whole
 expect 'a long name of a ledger: list' 0 t1 bag list "$long/${letters:8}"
 
 # Paths that are as long as the system allows: 4,095 octets with the name of the folder.
-# deep FOLDER START LENGTH: makes a file with the octets abc below the folder. Its path begins with START and has this many
-# octets; `path` is set to it.
+# deep FOLDER START LENGTH: makes a file with the octets abc below the folder. Its path begins with START and has this
+# many octets; `path` is set to it.
 deep() {
     local rest=$(($3 - ${#2}))
     path=$2

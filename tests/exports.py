@@ -1,8 +1,9 @@
 #!/usr/bin/env python3
-"""exports.py PROGRAM: exports that break off, and files that come into their way. At the end it prints how many of each were tried.
+"""exports.py PROGRAM: exports that break off, and files that come into their way. At the end it prints how many of each
+were tried.
 
-An export writes the tag files by path, and then the payload files by path. So where a file can't grow past a limit, there are all
-files before the first that is longer, whole, and the front of that one.
+An export writes the tag files by path, and then the payload files by path. So where a file can't grow past a limit,
+there are all files before the first that is longer, whole, and the front of that one.
 """
 import os
 import pathlib
@@ -16,7 +17,8 @@ import time
 
 from command_ledgers import Place
 
-PAYLOAD = ["data/Z", "data/a b", "data/a!", "data/a.txt", "data/a/x", "data/a0", "data/b", "data/\u00e9", "data/\u20ac", "data/\U0001f600"]
+PAYLOAD = ["data/Z", "data/a b", "data/a!", "data/a.txt", "data/a/x", "data/a0", "data/b", "data/\u00e9", "data/\u20ac",
+    "data/\U0001f600"]
 # The order in which the transfer is filled: neither that of the paths nor that of the sizes.
 SIZES = [40_000, 9_000, 70_000, 3, 120_000, 65_536, 0, 200_000, 5, 90_000]
 
@@ -42,7 +44,8 @@ def cut_off(make):
     """Exports with each limit of a file that makes a difference. Returns how many there were."""
     rng = random.Random(1)
     contents = {path: rng.randbytes(size) for path, size in zip(PAYLOAD, SIZES)}
-    place = filled(make, contents, [("notes/z", rng.randbytes(50_000)), ("a note", rng.randbytes(30_000)), ("zz", b"zz")])
+    place = filled(make, contents,
+        [("notes/z", rng.randbytes(50_000)), ("a note", rng.randbytes(30_000)), ("zz", b"zz")])
     files = [(path, group[path]) for group in (place.tags, contents) for path in sorted(group, key=os.fsencode)]
     # With a smaller limit the ledger can't be opened.
     limits = sorted({len(octets) - 1 for _, octets in files if len(octets) > 20_000} | {10**6})
@@ -50,7 +53,8 @@ def cut_off(make):
         words = place.words("export")
         answer = place.run(*words, limit=limit)
         front = next((place for place, (_, octets) in enumerate(files) if len(octets) > limit), len(files))
-        assert answer == ((0, [f"exported {len(files)} files"]) if front == len(files) else (3, ["bag: files"])), (limit, answer)
+        assert answer == ((0, [f"exported {len(files)} files"]) if front == len(files) else (3, ["bag: files"])), (
+            limit, answer)
         wanted = {path: octets[:limit] for path, octets in files[: front + 1]}
         assert there(words[-1]) == wanted, (limit, front, sorted(there(words[-1])))
         shutil.rmtree(words[-1])
@@ -62,10 +66,11 @@ def there(folder):
 
 
 def in_the_way(make):
-    """While an export writes a long file, another program makes a file or a directory where the next one is to be: it stays. Returns how
-    many were tried."""
+    """While an export writes a long file, another program makes a file or a directory where the next one is to be: it
+    stays. Returns how many were tried."""
     place = filled(make, {"data/a": bytes(20_000_000), "data/z": b"abc"})
-    things = [lambda path: path.write_bytes(b""), lambda path: path.write_bytes(b"of another program"), pathlib.Path.mkdir,
+    things = [lambda path: path.write_bytes(b""), lambda path: path.write_bytes(b"of another program"),
+              pathlib.Path.mkdir,
               lambda path: path.symlink_to("../bagit.txt"), lambda path: path.symlink_to("new")]
     for put in things:
         for _ in range(9):
@@ -78,7 +83,8 @@ def in_the_way(make):
 
 
 def put_in_the_way(place, words, path, put):
-    """Puts something at the path of a payload file that isn't there yet, and lets the export go on. False if it came too late."""
+    """Puts something at the path of a payload file that isn't there yet, and lets the export go on. False if it came
+    too late."""
     with subprocess.Popen([place.program, *words], stdout=subprocess.PIPE, stderr=subprocess.PIPE) as ran:
         while not (path.parent / "a").exists() and ran.poll() is None:
             time.sleep(0.0005)

@@ -4,6 +4,6 @@ set -u
 cd "$(dirname -- "$0")/.." || exit 1
 . tests/common.bash
 
-build_first
-expect 'exports' 0 '9 limits, 5 in the way' env TMPDIR="$work" python3 -B tests/exports.py crates/bag_program/out/bag_program
+take_program
+expect 'exports' 0 '9 limits, 5 in the way' env TMPDIR="$work" python3 -B tests/exports.py "$program"
 finish

@@ -1,11 +1,12 @@
 #!/usr/bin/env python3
-"""failing_commands.py PROGRAM MOST allocations LIBRARY, or failing_commands.py PROGRAM MOST calls: runs each command on a
-ledger with one failing memory allocation, or with one failing system call, once for each of them (for at most MOST of one
-command, spread over all, and for the last allocations of a new ledger; 0 for all).
+"""failing_commands.py PROGRAM MOST allocations LIBRARY, or failing_commands.py PROGRAM MOST calls: runs each command on
+a ledger with one failing memory allocation, or with one failing system call, once for each of them (for at most MOST of
+one command, spread over all, and for the last allocations of a new ledger; 0 for all).
 
-After each run the answer is the normal one, or it names what failed. What was answered is held, as sqlite3 reads it, and
-nothing else except what failed. Then the same command and a report, with nothing failing, answer as
-tests/reference_commands.py does for what is held. At the end it prints how many commands were run and how often one failed.
+After each run the answer is the normal one, or it names what failed. What was answered is held, as sqlite3 reads it,
+and nothing else except what failed. Then the same command and a report, with nothing failing, answer as
+tests/reference_commands.py does for what is held. At the end it prints how many commands were run and how often one
+failed.
 """
 import collections
 import copy
@@ -31,14 +32,16 @@ PAYLOAD = {b"data/a.txt": b"abc", b"data/e.txt": b"", b"data/" + LONG: b"xyz", b
 FETCH = (b"http://example.org/e 0 data/e.txt\nhttp://example.org/l 3 data/" + LONG +
          b"\nhttp://example.org/k - data/k/big\nhttp://example.org/z - data/z%25\n")
 TAGS = {b"bagit.txt": DECLARATION, b"bag-info.txt": b"Payload-Oxum: 70013.5\n", b"fetch.txt": FETCH,
-        b"manifest-md5.txt": new_bags.manifest("md5", PAYLOAD), b"manifest-sha256.txt": new_bags.manifest("sha256", PAYLOAD)}
+        b"manifest-md5.txt": new_bags.manifest("md5", PAYLOAD),
+        b"manifest-sha256.txt": new_bags.manifest("sha256", PAYLOAD)}
 TAGS[b"tagmanifest-sha256.txt"] = new_bags.manifest("sha256", TAGS)
 OTHER_TAGS = {b"bagit.txt": DECLARATION, b"manifest-sha256.txt": new_bags.manifest("sha256", {b"data/a.txt": b"abc"})}
 FOLDERS = {
     "sender": TAGS,
     "whole": {**TAGS, **PAYLOAD},
     "other": OTHER_TAGS,
-    "first": {b"data/a.txt": b"abc", b"data/k/big": PAYLOAD[b"data/k/big"], b"data/more": b"", b"data/z%": b"another line\n"},
+    "first": {b"data/a.txt": b"abc", b"data/k/big": PAYLOAD[b"data/k/big"], b"data/more": b"",
+        b"data/z%": b"another line\n"},
     "second": {b"data/a.txt": b"abc", b"data/e.txt": b"", b"data/" + LONG: b"xyz", b"data/z%": PAYLOAD[b"data/z%"]},
     "supplier": {b"data/e.txt": b"", b"data/" + LONG: b"xyz", b"data/z%": b"another line\n"},
     "letters": {b"a.txt": b"abc", LONG: b"xyz", b"k/x": b"defgh", b"k0": b""},
@@ -52,20 +55,23 @@ LEDGERS = {
 # The commands, each with the ledger that it finds. The folder that it makes is `out`.
 CASES = [
     (None, "begin ledger t1 ../sender"), (None, "begin ledger t1 ../first"), ("full", "begin ledger t3 ../whole"),
-    ("full", "begin ledger t1 ../sender"), ("full", "begin ledger t1 ../other"), ("begun", "intake ledger t1 ../first ../second"),
-    ("full", "intake ledger t1 ../second"), ("full", "intake ledger t9 ../second"), ("half", "report ledger t1"),
-    ("full", "report ledger t1"), ("half", "audit ledger t1"), ("full", "audit ledger t1"), ("half", "fetch ledger t1 ../supplier"),
-    ("begun", "fetch ledger t1 ../whole"), ("full", "export ledger t1 out"), ("full", "export ledger t9 out"), ("full", "list ledger"),
-    (None, "list ledger"), ("old", "list ledger"), ("old", "audit ledger t1"), (None, "make ../letters out sha256 md5"), (None, "make ../letters out sha224"), (None, "check ../whole"),
+    ("full", "begin ledger t1 ../sender"), ("full", "begin ledger t1 ../other"),
+    ("begun", "intake ledger t1 ../first ../second"), ("full", "intake ledger t1 ../second"),
+    ("full", "intake ledger t9 ../second"), ("half", "report ledger t1"), ("full", "report ledger t1"),
+    ("half", "audit ledger t1"), ("full", "audit ledger t1"), ("half", "fetch ledger t1 ../supplier"),
+    ("begun", "fetch ledger t1 ../whole"), ("full", "export ledger t1 out"), ("full", "export ledger t9 out"),
+    ("full", "list ledger"), (None, "list ledger"), ("old", "list ledger"), ("old", "audit ledger t1"),
+    (None, "make ../letters out sha256 md5"), (None, "make ../letters out sha224"), (None, "check ../whole"),
 ]
-# How system calls fail. `brk` is left out: the system never returns an error for it, and the C library would take one for an
-# address.
+# How system calls fail. `brk` is left out: the system never returns an error for it, and the C library would take one
+# for an address.
 ERRORS = {
-    "openat": ["EACCES", "EMFILE"], "read": ["EIO"], "pread64": ["EIO"], "write": ["ENOSPC"], "pwrite64": ["ENOSPC", "EIO"],
-    "fsync": ["EIO"], "fdatasync": ["EIO"], "ftruncate": ["EIO"], "unlink": ["EACCES"], "unlinkat": ["EACCES"], "rmdir": ["EACCES"],
-    "mkdir": ["EACCES"], "mkdirat": ["EACCES"], "fcntl": ["EIO"], "statx": ["EIO"], "fstat": ["EIO"], "newfstatat": ["EIO"],
-    "lseek": ["EIO"], "getdents64": ["EIO"], "close": ["EIO"], "mmap": ["ENOMEM"], "mremap": ["ENOMEM"],
-    "getrandom": ["EIO"], "readlink": ["EIO"], "readlinkat": ["EIO"], "fchmod": ["EPERM"], "fchown": ["EPERM"], "fadvise64": ["EINVAL"]}
+    "openat": ["EACCES", "EMFILE"], "read": ["EIO"], "pread64": ["EIO"], "write": ["ENOSPC"],
+    "pwrite64": ["ENOSPC", "EIO"], "fsync": ["EIO"], "fdatasync": ["EIO"], "ftruncate": ["EIO"], "unlink": ["EACCES"],
+    "unlinkat": ["EACCES"], "rmdir": ["EACCES"], "mkdir": ["EACCES"], "mkdirat": ["EACCES"], "fcntl": ["EIO"],
+    "statx": ["EIO"], "fstat": ["EIO"], "newfstatat": ["EIO"], "lseek": ["EIO"], "getdents64": ["EIO"],
+    "close": ["EIO"], "mmap": ["ENOMEM"], "mremap": ["ENOMEM"], "getrandom": ["EIO"], "readlink": ["EIO"],
+    "readlinkat": ["EIO"], "fchmod": ["EPERM"], "fchown": ["EPERM"], "fadvise64": ["EINVAL"]}
 # How many of the last allocations fail in any case.
 LAST = 60
 CALL = re.compile(r"([a-z0-9_]+)\(")
@@ -83,7 +89,8 @@ def prepare(program):
             os.rmdir(os.path.join(name, "data"))
     for name, commands in LEDGERS.items():
         for command, transfer, *folders in commands:
-            ran = subprocess.run([program, command, name, transfer, *folders], capture_output=True, timeout=60, check=False)
+            ran = subprocess.run([program, command, name, transfer, *folders], capture_output=True, timeout=60,
+                check=False)
             assert ran.returncode in (0, 1) and not ran.stderr, ran
     reference_commands.copy_ledger("half", "old")
     random_commands.Run.alter("old", random_commands.FIRST)
@@ -122,7 +129,10 @@ class Case:
         lines = ran.stdout.decode().split("\n")
         if lines.pop() or ran.returncode not in (3, self.wanted.status):
             raise Otherwise(f"{ran}")
-        is_lost = ran.returncode == 3 and (failed.startswith("write(") or is_memory(failed) and not ran.stderr)
+        # What can't be written to standard error is lost, and so may be what was to follow it. A name that is told there
+        # takes memory.
+        is_lost = (failed.startswith("write(2, ") or ran.returncode == 3 and failed.startswith("write(")
+                   or is_memory(failed) and not ran.stderr)
         if not is_explained(lines, ran.returncode, ran.stderr) and not is_lost:
             raise Otherwise(f"{ran}")
         is_whole = (lines, ran.returncode) == (self.wanted.lines, self.wanted.status)
@@ -137,9 +147,11 @@ class Case:
         self.judge_next()
 
     def judge_refusal(self, failed, lines):
-        """The output says what failed: in a single line, or for one payload file among others, which `replayed` judges."""
+        """The output says what failed: in a single line, or for one payload file among others, which `replayed`
+        judges."""
         words = ["memory"] if is_memory(failed) else ["files", "store", "not a ledger"]
-        if lines not in [["bag: " + word] for word in words] and not (lines and lines[0].startswith(("taken ", "repeated ", "refused "))):
+        if lines not in [["bag: " + word] for word in words] and not (lines
+            and lines[0].startswith(("taken ", "repeated ", "refused "))):
             raise Otherwise(f"{lines}")
 
     def judge_left(self, failed, lines, status):
@@ -148,7 +160,8 @@ class Case:
         self.judge_made(names, lines == self.wanted.lines, failed)
         begins = self.words[0] == b"begin" and status == 0
         is_due = self.ledger or begins or self.is_unseen(names, failed, lines) or (
-            "ledger" in names and lines in (["bag: store"], ["bag: memory"]) and (self.is_unopened(names) or self.is_left_by_failure()))
+            "ledger" in names and lines in (["bag: store"], ["bag: memory"])
+            and (self.is_unopened(names) or self.is_left_by_failure()))
         wanted = {"ledger"} if is_due else set()
         if names - {"out", "ledger-wal" if wanted else "out"} != wanted and not failed.startswith("unlink"):
             raise Otherwise(f"{lines}: there are {names}")
@@ -156,13 +169,17 @@ class Case:
             self.judge_held(failed, lines)
 
     def is_unseen(self, names, failed, lines):
-        """Whether a refused `begin` leaves a ledger without a transfer, since the failure kept it from seeing that there is none, or
-        from removing it."""
+        """Whether a refused `begin` leaves a ledger without a transfer, since the failure kept it from seeing that
+        there is none, or from removing it; or, if it could not bring to the disk that its log is removed, a database
+        without tables."""
         is_refused = self.words[0] == b"begin" and self.wanted.status != 0 and lines == self.wanted.lines
-        return is_refused and failed != "nothing" and "ledger" in names and self.is_without_transfer()
+        is_left = is_refused and failed != "nothing" and "ledger" in names
+        return is_left and (self.is_without_transfer() or failed.startswith("fsync(")
+            and reference_commands.is_without_tables("ledger"))
 
     def is_without_transfer(self):
-        """Whether the ledger is one without a transfer: it stays if the failure kept `begin` from seeing that there is none."""
+        """Whether the ledger is one without a transfer: it stays if the failure kept `begin` from seeing that there is
+        none."""
         try:
             return not read_ledger("ledger").transfers
         except reference.End:
@@ -176,8 +193,8 @@ class Case:
             return False
 
     def is_unopened(self, names):
-        """Whether the ledger to be made is an empty file: a program that couldn't open a file doesn't know that no other program
-        uses it, and leaves it."""
+        """Whether the ledger to be made is an empty file: a program that couldn't open a file doesn't know that no
+        other program uses it, and leaves it."""
         return all(os.path.getsize(name) == 0 for name in names)
 
     def judge_made(self, names, is_done, failed):
@@ -205,7 +222,8 @@ class Case:
             raise Otherwise(f"{lines}: what is held is none of {len(may_be)}")
 
     def replayed(self, failed, lines):
-        """What may be held after these lines: what they answer and, if the store failed, also what it failed to store."""
+        """What may be held after these lines: what they answer and, if the store failed, also what it failed to
+        store."""
         receiver, rest, doubtful = copy.deepcopy(self.found), list(lines), []
         causes = ["memory"] if is_memory(failed) else ["store", "reader", "supplier"]
         for path, deliver in self.attempts(receiver):
@@ -230,7 +248,8 @@ class Case:
         if command == "intake":
             for bag in map(reference.Folder, folders):
                 for path in bag.payload:
-                    yield path, lambda to, path=path, bag=bag: reference_commands.deliver(to, name, path, bag.octets(path))
+                    yield path, lambda to, path=path, bag=bag: reference_commands.deliver(to, name, path,
+                        bag.octets(path))
             return
         for path in receiver.transfers[name].fetch:
             if path not in receiver.transfers[name].held:

@@ -1,21 +1,24 @@
 #!/usr/bin/env python3
-"""feeds.py COUNT SEED DRIVER: worked texts of tag files in pieces; and the tag files of every example and of the first COUNT random
-bags of tests/random_bags.py, each cut at every place, or at 64 random ones if it is longer than 256 octets, and in several pieces. The
-driver reads each text whole and from its pieces, which have to agree, also with tests/reference.py. The same seed makes the same
-texts. The first that is read otherwise is printed.
+"""feeds.py COUNT SEED DRIVER: worked texts of tag files in pieces; and the tag files of every example and of the first
+COUNT random bags of tests/random_bags.py, each cut at every place, or at 64 random ones if it is longer than 256
+octets, and in several pieces. The driver reads each text whole and from its pieces, which have to agree, also with
+tests/reference.py. The same seed makes the same texts. The first that is read otherwise is printed.
 
 The driver reads lines of standard input, each a word with its fields after one blank each:
 
     lines PIECE ..                  prints the number of lines of the joined pieces
-    feed NAME VERSION PIECE ..      prints what a feed answers to each piece, `ok` or a fault, and what is read at the end, joined by ` | `;
-                                    the name and the version are in hex, and the version stands before each piece
-    cut NAME VERSION TEXT PLACES .. prints the number of lines of a text and what the whole reader reads from it. Then, if a feed reads
-                                    something else from the text that is cut at some PLACES, or other lines are counted, the places and
-                                    that. A feed is fed on after a fault, and has to answer it each time
+    feed NAME VERSION PIECE ..      prints what a feed answers to each piece, `ok` or a fault, and what is read at the
+                                    end, joined by ` | `; the name and the version are in hex, and the version stands
+                                    before each piece
+    cut NAME VERSION TEXT PLACES .. prints the number of lines of a text and what the whole reader reads from it. Then,
+                                    if a feed reads something else from the text that is cut at some PLACES, or other
+                                    lines are counted, the places and that. A feed is fed on after a fault, and has to
+                                    answer it each time
 
-NAME is the name of a tag file, VERSION 1.0 or 0.97, PIECE and TEXT are in hex, or `-` if they are empty, and PLACES are numbers joined by
-commas. What is read is `pairs` and for each its digest and path; `elements` and for each its label and value; `entries` and for each its
-line, URL, length or `-`, and path; or the fault as the program prints it. Texts are in hex, or `-` if they are empty.
+NAME is the name of a tag file, VERSION 1.0 or 0.97, PIECE and TEXT are in hex, or `-` if they are empty, and PLACES are
+numbers joined by commas. What is read is `pairs` and for each its digest and path; `elements` and for each its label
+and value; `entries` and for each its line, URL, length or `-`, and path; or the fault as the program prints it. Texts
+are in hex, or `-` if they are empty.
 """
 import os
 import random
@@ -153,7 +156,8 @@ def cuttings(rng, text):
 
 
 def answers(driver, lines):
-    ran = subprocess.run([driver, "feeds"], input="".join(asked + "\n" for asked in lines).encode(), capture_output=True, timeout=600,
+    ran = subprocess.run([driver, "feeds"], input="".join(asked + "\n" for asked in lines).encode(),
+                         capture_output=True, timeout=600,
                          check=False)
     return ran.stdout.decode().splitlines() + ([] if ran.returncode == 0 else [f"status {ran.returncode}"])
 

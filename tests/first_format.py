@@ -1,9 +1,9 @@
 #!/usr/bin/env python3
 """first_format.py PROGRAM: ledgers of format 1, which sqlite3 writes as docs/FORMAT.md says.
 
-The first command on such a ledger must move it to format 2 and answer as on a ledger that was always of format 2. sqlite3 reads the
-tables before and after, row by row. A ledger that is refused, or for which there is no room, must stay of format 1, with all that it held.
-At the end it prints how much of each was tried.
+The first command on such a ledger must move it to format 2 and answer as on a ledger that was always of format 2.
+sqlite3 reads the tables before and after, row by row. A ledger that is refused, or for which there is no room, must
+stay of format 1, with all that it held. At the end it prints how much of each was tried.
 """
 import contextlib
 import hashlib
@@ -24,7 +24,8 @@ DECLARATION = b"BagIt-Version: 1.0\nTag-File-Character-Encoding: UTF-8\n"
 
 
 def blocks():
-    """The texts of the tables of both formats, as FORMAT.md has them, but for blanks: those of format 2, and then that of format 1."""
+    """The texts of the tables of both formats, as FORMAT.md has them, but for blanks: those of format 2, and then that
+    of format 1."""
     text = (pathlib.Path(__file__).parent.parent / "docs/FORMAT.md").read_text(encoding="utf-8")
     found = [block.partition("```")[0] for block in text.split("```sql\n")[1:]]
     return [["CREATE TABLE " + " ".join(part.split()) for part in block.split("CREATE TABLE ")[1:]] for block in found]
@@ -35,12 +36,14 @@ FIRST = SECOND[:3] + ITEM
 
 
 def tags_of(files):
-    lines = "".join(f"{hashlib.sha256(octets).hexdigest()}  {path.replace('%', '%25')}\n" for path, octets in files.items())
+    lines = "".join(f"{hashlib.sha256(octets).hexdigest()}  {path.replace('%', '%25')}\n"
+        for path, octets in files.items())
     return {"bagit.txt": DECLARATION, "manifest-sha256.txt": lines.encode()}
 
 
 def write_first(file, transfers, unlisted=None):
-    """A ledger of format 1 with these payload files in each transfer, all listed, and in `unlisted` those that are not held."""
+    """A ledger of format 1 with these payload files in each transfer, all listed, and in `unlisted` those that are not
+    held."""
     with contextlib.closing(sqlite3.connect(file)) as database:
         for text in FIRST:
             database.execute(text)
@@ -50,7 +53,8 @@ def write_first(file, transfers, unlisted=None):
             for path, body in tags_of({**files, **(unlisted or {}).get(name, {})}).items():
                 database.execute("INSERT INTO tag (transfer, path, body) VALUES (?, ?, ?)", (transfer, path, body))
             for path, octets in files.items():
-                database.execute("INSERT INTO item (transfer, path, size, body) VALUES (?, ?, ?, ?)", (transfer, path, len(octets), octets))
+                database.execute("INSERT INTO item (transfer, path, size, body) VALUES (?, ?, ?, ?)",
+                    (transfer, path, len(octets), octets))
         database.commit()
 
 
@@ -62,7 +66,8 @@ def change(file, text):
 
 
 def read(file):
-    """The number of the format of a ledger, and for each transfer its tag files and its payload files. Each row belongs to something."""
+    """The number of the format of a ledger, and for each transfer its tag files and its payload files. Each row belongs
+    to something."""
     with tempfile.TemporaryDirectory() as folder:
         copy = pathlib.Path(folder) / "copy"
         for end in ("", "-wal"):
@@ -123,29 +128,35 @@ THREE = {"data/a.txt": b"abc", "data/e.txt": b""}
 
 
 def is_moved(program):
-    """A small ledger, and one with payload files of many sizes. Returns how many payload files there were."""
+    """A small ledger, one with payload files of many sizes, one with as many as a manifest can list, and one with more
+    transfers than can be numbered in 16 bits. Returns how many payload files there were."""
     small = {"t1": THREE, "t5": {"data/b": bytes(PIECE + 1)}}
     rng = random.Random(7)
     sizes = [0, 1, PIECE - 1, PIECE, PIECE + 1, 2 * PIECE, 2 * PIECE + 1, LARGEST, LARGEST + 1]
     many = {"sizes": {f"data/{size}": rng.randbytes(size) for size in sizes}, "t": {"data/%25 é": b"x"}, "none": {}}
-    for transfers in (small, many):
+    all_listed = {"t1": {f"data/{number:06}": b"" for number in range(100_000)}}
+    all_named = {f"t{number}": {} for number in range(65_540)}
+    ledgers = small, many, all_listed, all_named
+    for transfers in ledgers:
         file = program.place() / "ledger"
         write_first(file, transfers)
         was = read(file)
         assert was[0] == 1 and {name: files for name, (_, files) in was[1].items()} == transfers
         assert program.run("list", file) == (0, sorted(transfers)), transfers.keys()
         assert read(file) == (2, was[1])
-        for name in transfers:
+        for name in transfers if len(transfers) < 10 else ["t1"]:
             assert program.run("report", file, name) == (0, ["valid"]) == program.run("audit", file, name), name
         assert read(file) == (2, was[1])
     with contextlib.closing(sqlite3.connect(program.folder / "place1/ledger")) as database:
-        counts = [database.execute(f"SELECT count(*) FROM {table}").fetchone()[0] for table in ("held", "piece", "item")]
+        counts = [database.execute(f"SELECT count(*) FROM {table}").fetchone()[0]
+            for table in ("held", "piece", "item")]
     assert counts == [3, 3, 0], counts
-    return sum(len(files) for transfers in (small, many) for files in transfers.values())
+    return sum(len(files) for transfers in ledgers for files in transfers.values())
 
 
 def first_commands(program):
-    """Each command as the first one on a ledger of format 1, and on the same ledger once it was moved. Returns how many there were."""
+    """Each command as the first one on a ledger of format 1, and on the same ledger once it was moved. Returns how many
+    there were."""
     commands = ["begin", "intake", "report", "audit", "fetch", "export", "list"]
     for command in commands:
         answers = []
@@ -158,11 +169,13 @@ def first_commands(program):
             write_first(place / "ledger", {"t1": THREE}, {"t1": {"data/z": b"z"}})
             if is_moved_first:
                 assert program.run("list", place / "ledger") == (0, ["t1"])
-            more = {"begin": ["t1", bag], "intake": ["t1", bag], "fetch": ["t1", bag], "export": ["t1", place / "out"], "list": []}
+            more = {"begin": ["t1", bag], "intake": ["t1", bag], "fetch": ["t1", bag], "export": ["t1", place / "out"],
+                "list": []}
             answer = program.run(command, place / "ledger", *more.get(command, ["t1"]))
             number, ledger = read(place / "ledger")
             assert number == 2
-            answers.append((answer, ledger, sorted(path.relative_to(place) for path in place.rglob("*") if path.is_file())))
+            answers.append((answer, ledger,
+                sorted(path.relative_to(place) for path in place.rglob("*") if path.is_file())))
         assert answers[0] == answers[1], answers
         assert answers[0][0][0] in (0, 1), answers
     return len(commands)
@@ -171,6 +184,14 @@ def first_commands(program):
 # A table of any types, in which a row may have no owner and a path may be there twice.
 LOOSE = "CREATE TABLE loose (transfer, path, size, body); INSERT INTO loose SELECT * FROM item; DROP TABLE item; ALTER TABLE loose RENAME TO item; "
 LOOSE_TAGS = "CREATE TABLE loose (transfer, path, body); INSERT INTO loose SELECT * FROM tag; DROP TABLE tag; ALTER TABLE loose RENAME TO tag; "
+# Names and paths in columns for which `A` and `a` are equal.
+ANY_CASE = """CREATE TABLE loose (id INTEGER PRIMARY KEY, name TEXT COLLATE NOCASE); INSERT INTO loose SELECT * FROM transfer;
+    DROP TABLE transfer; ALTER TABLE loose RENAME TO transfer; """
+ANY_CASE_ITEMS = """CREATE TABLE loose (transfer, path TEXT COLLATE NOCASE, size, body); INSERT INTO loose SELECT * FROM item;
+    DROP TABLE item; ALTER TABLE loose RENAME TO item; """
+# The first payload file of `t1` does not pass; or no transfer can be opened with the tag files of `t1`.
+DAMAGED = "UPDATE item SET body = x'616264' WHERE path = 'data/a.txt' AND transfer = 1; "
+DAMAGED_TAGS = "UPDATE tag SET body = x'' WHERE transfer = 1 AND path = 'bagit.txt'; "
 # A change to a ledger of format 1 with two transfers, and the lines of `list` afterwards.
 CHANGES = [
     ("", "t1", "t2"),
@@ -210,14 +231,27 @@ CHANGES = [
     (LOOSE + "UPDATE item SET transfer = 1.0 WHERE path = 'data/z'", "bag: not a ledger"),
     (LOOSE_TAGS, "t1", "t2"),
     (LOOSE_TAGS + "UPDATE tag SET transfer = '2' WHERE transfer = 2 AND path = 'bagit.txt'", "bag: not a ledger"),
+    # A database that is no ledger is told as that, whatever is damaged too, and wherever.
+    (DAMAGED + "UPDATE transfer SET name = CAST(x'7aff' AS TEXT) WHERE name = 't2'", "bag: not a ledger"),
+    (DAMAGED + "UPDATE tag SET path = CAST(x'7aff' AS TEXT) WHERE transfer = 2 AND path = 'bagit.txt'",
+        "bag: not a ledger"),
+    (DAMAGED + "UPDATE item SET path = CAST(x'646174612f7aff' AS TEXT) WHERE transfer = 2", "bag: not a ledger"),
+    (DAMAGED_TAGS + "UPDATE transfer SET name = CAST(x'7aff' AS TEXT) WHERE name = 't2'", "bag: not a ledger"),
+    (DAMAGED_TAGS + "ALTER TABLE item RENAME COLUMN body TO octets", "bag: not a ledger"),
+    ("UPDATE item SET path = CAST(x'646174612f7aff' AS TEXT) WHERE path = 'data/z'", "bag: not a ledger"),
+    # What is told is the first by octets, also where the columns have another order.
+    (ANY_CASE, "t1", "t2"),
+    (ANY_CASE_ITEMS, "t1", "t2"),
+    (ANY_CASE + DAMAGED + "INSERT INTO transfer (name) VALUES ('T3')", "bag: damaged T3 "),
+    (ANY_CASE_ITEMS + DAMAGED + "INSERT INTO item VALUES (1, 'data/Y', 0, x'')", "bag: damaged t1 data/Y"),
     # Every payload file is as it should be, and there is no room for them in format 2.
     (LOOSE + "INSERT INTO item SELECT * FROM item WHERE transfer = 2", "bag: store"),
     ("CREATE TABLE held (id INTEGER PRIMARY KEY)", "bag: store"),
     ("CREATE TABLE piece (id INTEGER PRIMARY KEY)", "bag: store"),
     # Tables of the names of format 2 are not taken for those of this ledger, even if they have its texts, and rows.
     (
-        "; ".join(SECOND[3:]) + "; INSERT INTO held VALUES (1, 1, 'data/a.txt', 3); INSERT INTO piece VALUES (1, 0, x'000000')",
-        "bag: store",
+        "; ".join(SECOND[3:])
+        + "; INSERT INTO held VALUES (1, 1, 'data/a.txt', 3); INSERT INTO piece VALUES (1, 0, x'000000')", "bag: store",
     ),
     # What is no one's stays.
     ("CREATE TABLE other (id INTEGER PRIMARY KEY); INSERT INTO other VALUES (7)", "t1", "t2"),
@@ -236,8 +270,8 @@ def held(file, held_in):
 
 
 def changed(program):
-    """Ledgers that another program changed. Those that are refused stay octet by octet, and the others hold what they held. Returns
-    how many there were."""
+    """Ledgers that another program changed. Those that are refused stay octet by octet, and the others hold what they
+    held. Returns how many there were."""
     for text, *lines in CHANGES:
         file = program.place() / "ledger"
         write_first(file, {"t1": {**THREE, "data/z": bytes(PIECE + 1)}, "t2": {"data/a.txt": b"abc"}})
@@ -248,7 +282,8 @@ def changed(program):
         found = program.run("list", file)
         assert found == (3 if is_refused else 0, lines), (text, found)
         if is_refused:
-            assert before == file.read_bytes() and sorted(path.name for path in file.parent.iterdir()) == ["ledger"], text
+            assert before == file.read_bytes() and sorted(path.name
+                for path in file.parent.iterdir()) == ["ledger"], text
         else:
             assert held(file, held_in_second) == was, text
     return len(CHANGES)
@@ -259,7 +294,8 @@ def locked(program):
     file = program.place() / "ledger"
     write_first(file, {"t1": THREE})
     before = file.read_bytes()
-    with subprocess.Popen([sys.executable, "-c", LOCK, file], stdin=subprocess.PIPE, stdout=subprocess.PIPE, text=True) as other:
+    with subprocess.Popen([sys.executable, "-c", LOCK, file], stdin=subprocess.PIPE, stdout=subprocess.PIPE,
+        text=True) as other:
         assert other.stdout.readline() == "locked\n"
         assert program.run("report", file, "t1") == (3, ["bag: store"])
         other.stdin.close()
@@ -268,7 +304,8 @@ def locked(program):
 
 
 def full_disks(program):
-    """A disk that is full after so many octets: the ledger stays what it was, or it is moved. Returns how often it stayed and was moved."""
+    """A disk that is full after so many octets: the ledger stays what it was, or it is moved. Returns how often it
+    stayed and was moved."""
     transfers = {"t1": {**THREE, "data/z": random.Random(3).randbytes(3 * PIECE)}}
     whole = program.place() / "ledger"
     write_first(whole, transfers)
@@ -279,7 +316,8 @@ def full_disks(program):
         found = program.run("report", file, "t1", limit=limit)
         number, ledger = read(file)
         assert ledger == was, limit
-        assert found == (0, ["valid"]) if number == 2 and found[0] == 0 else found == (3, ["bag: store"]), (limit, found, number)
+        assert found == (0, ["valid"]) if number == 2 and found[0] == 0 else found == (3, ["bag: store"]), (
+            limit, found, number)
         counts[number - 1] += 1
         assert program.run("audit", file, "t1") == (0, ["valid"]) and read(file) == (2, was), limit
         shutil.rmtree(file.parent)

@@ -4,14 +4,15 @@ set -u
 cd "$(dirname -- "$0")/.." || exit 1
 . tests/common.bash
 
-build_first
-program=crates/bag_program/out/bag_program
-tried='13 payload files moved, 7 first commands, 44 changed, 81 full disks'
+take_program
+tried='100013 payload files moved, 7 first commands, 54 changed, 81 full disks'
 expect 'ledgers of format 1' 0 "$tried" env TMPDIR="$work" python3 -B tests/first_format.py "$program"
 
 # write_first FILE: makes a ledger of format 1 with one transfer, t1.
 write_first() {
-    python3 -B -c 'import sys; sys.path[:0] = ["tests"]; import first_format as f; f.write_first(sys.argv[1], {"t1": f.THREE})' "$1"
+    python3 -B -c \
+        'import sys; sys.path[:0] = ["tests"]; import first_format as f; f.write_first(sys.argv[1], {"t1": f.THREE})' \
+        "$1"
 }
 
 # A ledger that may not be written, or whose log may not be made, stays what it was.
@@ -26,7 +27,8 @@ chmod 555 "$work/locked"
 chmod 444 "$work/open/ledger"
 chmod 666 "$work/locked/ledger"
 for place in open locked; do
-    expect "a ledger of format 1 that cannot be written, $place" 3 'bag: store' nobody "$work/program" list "$work/$place/ledger"
+    expect "a ledger of format 1 that cannot be written, $place" 3 'bag: store' \
+        nobody "$work/program" list "$work/$place/ledger"
     expect "it stays what it was, $place" 0 '' cmp "$work/was" "$work/$place/ledger"
     expect "nothing else is made, $place" 0 ledger below "$work/$place"
 done

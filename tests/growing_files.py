@@ -1,7 +1,8 @@
 #!/usr/bin/env python3
-"""growing_files.py [--answers]: prints a list of deliveries in the format of tests/deliveries.py, or the expected answers: a
-transfer of 256 payload files, of which the nth is n octets of value n, and one run that delivers all of them, then all in
-reverse order, then each with one octet more; and the same in another transfer, to which a courier brings them."""
+"""growing_files.py [--answers]: prints a list of deliveries in the format of tests/deliveries.py, or the expected
+answers: a transfer of 256 payload files, of which the nth is n octets of value n, and one run that delivers all of
+them, then all in reverse order, then each with one octet more; and the same in another transfer, to which a courier
+brings them."""
 import hashlib
 import sys
 

@@ -63,7 +63,8 @@ def cuts_of_declaration():
 
 
 def cut_line(number, cut, own, others):
-    """A line that was cut after this many of its 76 octets, with the other payload files listed in no line before it [6]."""
+    """A line that was cut after this many of its 76 octets, with the other payload files listed in no line before it
+    [6]."""
     file = f"manifest-sha256.txt:{number}: "
     text = own[:cut - 66].decode()
     if cut <= 64:
@@ -111,7 +112,8 @@ def endings_and_marks():
 
 
 def names():
-    """Names of payload files: with blanks at both ends, tabs, line ends, symbols and non-ASCII characters, and long ones [4, 6]."""
+    """Names of payload files: with blanks at both ends, tabs, line ends, symbols and non-ASCII characters, and long
+    ones [4, 6]."""
     odd = {
         b"data/ two  blanks ": b"",
         b"data/\ttab": b"",
@@ -197,20 +199,25 @@ def limits_beside_faults():
         yield f"{told}: 16,777,216 lines", with_tag(name, b"\n" * 16_777_216), many
         yield f"{told}: 16,777,217 lines", with_tag(name, b"\n" * 16_777_217), large
     first = not_complete("bag-info.txt:1: separator")
-    yield "bag-info.txt: a faulty line and 16,777,214 more", with_tag(b"bag-info.txt", b"x\n" + b"\n" * 16_777_214), first
-    yield "bag-info.txt: a faulty line and 16,777,215 more", with_tag(b"bag-info.txt", b"x\n" + b"\n" * 16_777_215), large
+    yield "bag-info.txt: a faulty line and 16,777,214 more", with_tag(b"bag-info.txt",
+        b"x\n" + b"\n" * 16_777_214), first
+    yield "bag-info.txt: a faulty line and 16,777,215 more", with_tag(b"bag-info.txt",
+        b"x\n" + b"\n" * 16_777_215), large
 
 
 def pieces():
     """What stands where a piece of 65,536 octets ends; and manifests of several pieces, which are hashed."""
-    for octets, lines in [(b"\r\n", 2), (b"\r", 2), (b"\n", 2), ("\u00e9".encode(), 1), ("\U0001f4a9".encode(), 1), (b"\n\r\n", 3)]:
+    for octets, lines in [(b"\r\n", 2), (b"\r", 2), (b"\n", 2), ("\u00e9".encode(), 1), ("\U0001f4a9".encode(), 1),
+        (b"\n\r\n", 3)]:
         for before in range(len(octets) + 1):
             text = b"Note: " + b"x" * (65_536 - 6 - before) + octets + b" y\nOther: z\n"
-            yield f"{octets} at the end of a piece, after {before} of its octets", with_tag(b"bag-info.txt", text), VALID
+            yield f"{octets} at the end of a piece, after {before} of its octets", with_tag(b"bag-info.txt",
+                text), VALID
             bad = not_complete(f"bag-info.txt:{lines + 2}: separator")
             yield "the same, and a faulty line", with_tag(b"bag-info.txt", text + b"bad"), bad
     text = MARK + b"A: " + b"x" * (65_536 - 5) + b"\xff"
-    yield "a line of more than a piece that isn't UTF-8", with_tag(b"bag-info.txt", text), not_complete("bag-info.txt:1: not UTF-8")
+    yield "a line of more than a piece that isn't UTF-8", with_tag(b"bag-info.txt",
+        text), not_complete("bag-info.txt:1: not UTF-8")
     files = {b"data/%04d" % i: b"" for i in range(2_000)}
     for ending in (b"\n", b"\r", b"\r\n"):
         text = b"".join(line(path, b"") + ending for path in files)
@@ -268,7 +275,8 @@ def long_paths_0_97():
         text = manifest() + zeros + spelling * 4091
         yield f"a path of 4,096 octets with {name}, version 0.97", with_tag_0_97(b"manifest-sha256.txt", text), missing
         too_long = not_complete("manifest-sha256.txt:3: path")
-        yield f"an octet more with {name}, version 0.97", with_tag_0_97(b"manifest-sha256.txt", text + spelling), too_long
+        yield f"an octet more with {name}, version 0.97", with_tag_0_97(b"manifest-sha256.txt",
+            text + spelling), too_long
         text = manifest() + zeros + spelling * 10**6
         yield f"a million times {name}, version 0.97", with_tag_0_97(b"manifest-sha256.txt", text), too_long
 
@@ -305,7 +313,8 @@ def many_0_97():
     paths = [b"data/z%d" % (i // 2) for i in range(100_000)]
     text = b"".join(b"http:x - " + path + b"\n" for path in paths)
     answer = not_complete(*[f"fetch.txt: not in manifest-sha256.txt: {path.decode()}" for path in sorted(set(paths))])
-    yield "100,000 lines of fetch.txt, whose paths are in no manifest, version 0.97", with_tag_0_97(b"fetch.txt", text), answer
+    yield "100,000 lines of fetch.txt, whose paths are in no manifest, version 0.97", with_tag_0_97(b"fetch.txt",
+        text), answer
 
 
 def write(folder, files):
@@ -338,6 +347,7 @@ def judged(program, kind, families):
 
 
 if __name__ == "__main__":
-    FAMILIES = (cuts_of_declaration, cuts_of_manifest, endings_and_marks, names, long_lines, numerals, payload_directory, limits,
+    FAMILIES = (cuts_of_declaration, cuts_of_manifest, endings_and_marks, names, long_lines, numerals,
+                payload_directory, limits,
                 limits_beside_faults, pieces, names_0_97, long_paths_0_97, blanks_0_97, many_0_97)
     sys.exit(judged(sys.argv[1], "hostile", FAMILIES))

@@ -5,7 +5,7 @@ set -u
 cd "$(dirname -- "$0")/.." || exit 1
 . tests/common.bash
 
-build_first
+take_program
 
 for kind in small hostile; do
     case $kind in
@@ -13,6 +13,6 @@ for kind in small hostile; do
     hostile) table=hostile.py number=330 ;;
     esac
     expect "each $kind bag has the answer that FORMAT.md requires" 0 "$number $kind bags: 0 answered differently" \
-        env TMPDIR="$work" python3 -B "tests/$table" crates/bag_program/out/bag_program
+        env TMPDIR="$work" python3 -B "tests/$table" "$program"
 done
 finish

@@ -6,11 +6,11 @@ set -u
 cd "$(dirname -- "$0")/.." || exit 1
 . tests/common.bash
 
-build_first
-program=crates/bag_program/out/bag_program
+take_program
 
 # big NAME: makes a bag with a sparse payload file that takes many seconds to read but no room on the disk, followed by
-# data/z. Between them are as many files as are opened side by side, so that data/z is opened when the large one was read.
+# data/z. Between them are as many files as are opened side by side, so that data/z is opened when the large one was
+# read.
 big() {
     local between
     cp -r examples/first-bag "$work/$1"
@@ -52,11 +52,13 @@ complete, not valid'
     big vanishes
     expect 'a file that vanishes' 3 'bag: files' while_reading "$work/vanishes" 'rm data/z'
     big becomes-directory
-    expect 'a file that becomes a directory' 3 'bag: files' while_reading "$work/becomes-directory" 'rm data/z && mkdir data/z'
+    expect 'a file that becomes a directory' 3 'bag: files' \
+        while_reading "$work/becomes-directory" 'rm data/z && mkdir data/z'
     big moves
     expect 'a file whose directory moves away' 3 'bag: files' while_reading "$work/moves" 'mv data k'
     big again
-    expect 'a manifest that changes when it was read' 1 "$cut_off" while_reading "$work/again" 'echo x >manifest-sha256.txt'
+    expect 'a manifest that changes when it was read' 1 "$cut_off" \
+        while_reading "$work/again" 'echo x >manifest-sha256.txt'
 else
     lacking 'files that change (no sparse files)'
 fi
@@ -108,7 +110,8 @@ expect 'a file that takes a part' 3 '' small_file ./bag check "$work/many"
 short_of_memory() {
     local limit status printed answers=''
     for limit in $(seq 2000 500 20000) $(seq 22000 2000 64000); do
-        [ "$(ulimit -v "$limit" && "$program" 2>"$work/no start")" = 'bag: check, make, begin, intake, report, audit, fetch, export, list' ] || continue
+        [ "$(ulimit -v "$limit" && "$program" 2>"$work/no start")" = \
+            'bag: check, make, begin, intake, report, audit, fetch, export, list' ] || continue
         status=0
         printed=$(ulimit -v "$limit" && exec "$program" check "$1") || status=$?
         case "$status $printed" in
@@ -149,9 +152,9 @@ injects() {
     return "$status"
 }
 
-# each_call NAME FAULT STATUS LINES [CAUSE]: checks a bag with all kinds of tag files, once for each of these calls, which then
-# fails with this fault. Standard error names the folder or something in it, with this cause. The calls that the program makes
-# before it looks at its arguments belong to its start.
+# each_call NAME FAULT STATUS LINES [CAUSE]: checks a bag with all kinds of tag files, once for each of these calls,
+# which then fails with this fault. Standard error names the folder or something in it, with this cause. The calls that
+# the program makes before it looks at its arguments belong to its start.
 each_call() {
     local nth status printed said start all
     start=$(calls "$1" "$program")
@@ -167,23 +170,29 @@ each_call() {
 }
 
 if strace -o "$work/calls" true 2>"$work/no strace"; then
-    expect 'no directory or file that can be opened' 0 '' each_call openat error=EACCES 3 'bag: files' 'Permission denied (os error 13)'
+    expect 'no directory or file that can be opened' 0 '' \
+        each_call openat error=EACCES 3 'bag: files' 'Permission denied (os error 13)'
     expect 'no handle left' 0 '' each_call openat error=EMFILE 3 'bag: files' 'Too many open files (os error 24)'
-    expect 'directories and files that vanish' 0 '' each_call openat error=ENOENT 3 'bag: files' 'No such file or directory (os error 2)'
-    expect 'directories that break off' 0 '' each_call getdents64 error=EIO 3 'bag: files' 'Input/output error (os error 5)'
-    expect 'names without a file' 0 '' each_call statx error=ENOENT 3 'bag: files' 'No such file or directory (os error 2)'
+    expect 'directories and files that vanish' 0 '' \
+        each_call openat error=ENOENT 3 'bag: files' 'No such file or directory (os error 2)'
+    expect 'directories that break off' 0 '' \
+        each_call getdents64 error=EIO 3 'bag: files' 'Input/output error (os error 5)'
+    expect 'names without a file' 0 '' \
+        each_call statx error=ENOENT 3 'bag: files' 'No such file or directory (os error 2)'
     expect 'files that break off' 0 '' each_call read error=EIO 3 'bag: files' 'Input/output error (os error 5)'
-    expect 'reads that are interrupted' 0 '' each_call read error=EINTR 3 'bag: files' 'Interrupted system call (os error 4)'
+    expect 'reads that are interrupted' 0 '' \
+        each_call read error=EINTR 3 'bag: files' 'Interrupted system call (os error 4)'
     expect 'files whose closing fails: they were read' 0 '' each_call close error=EIO 0 valid
     # What is printed is gathered, and written when there is much of it, or at the end.
     expect 'one write for a short output' 0 1 calls write "$program" check examples/several-faults
     # The folder of a file is made once: a hundred files in one folder need as many calls for folders as one.
     mkdir -p "$work/one/k" "$work/hundred/k"
     touch "$work/one/k/1" "$work/hundred/k/"{1..100}
-    expect 'a folder of many files is made once' 0 "$(calls mkdir "$program" make "$work/one" "$work/made of one" md5)" \
+    expect 'a folder of many files is made once' 0 \
+        "$(calls mkdir "$program" make "$work/one" "$work/made of one" md5)" \
         calls mkdir "$program" make "$work/hundred" "$work/made of a hundred" md5
-    # fails_once FILE NUMBER ARGUMENT..: this read of the file fails, and another try of it would not. A read that failed is
-    # never made again.
+    # fails_once FILE NUMBER ARGUMENT..: this read of the file fails, and another try of it would not. A read that
+    # failed is never made again.
     fails_once() {
         injects "inject=read:error=EIO:when=$2" -P "$1" "$program" "${@:3}"
     }
@@ -210,23 +219,28 @@ if strace -o "$work/calls" true 2>"$work/no strace"; then
     echo b >"$work/two/b"
     expect 'two files that fail: a bag' 0 'made 2 files, 1000002 octets' "$program" make "$work/two" "$work/both" md5
     two_fail() {
-        injects 'inject=read:error=EIO:when=3' -e 'inject=openat:error=EACCES:when=2' -P "$work/both/data/a" -P "$work/both/data/b" \
+        injects 'inject=read:error=EIO:when=3' -e 'inject=openat:error=EACCES:when=2' -P "$work/both/data/a" -P \
+            "$work/both/data/b" \
             "$program" check "$work/both"
     }
     explain 'two files that fail' 3 "bag: $work/both/data/a: Input/output error (os error 5)" two_fail
     expect 'two files that fail: they are sound' 0 valid "$program" check "$work/both"
     two_fail_in_a_new_bag() {
-        injects 'inject=read:error=EIO:when=4' -e 'inject=openat:error=EACCES:when=2' -P "$work/two/a" -P "$work/two/b" \
+        injects 'inject=read:error=EIO:when=4' -e 'inject=openat:error=EACCES:when=2' -P "$work/two/a" -P \
+            "$work/two/b" \
             "$program" make "$work/two" "$work/of two" md5
     }
     explain 'two files that fail: make' 3 "bag: $work/two/a: Input/output error (os error 5)" two_fail_in_a_new_bag
     # The second write to the first copy fails, and the other copy could not be begun.
     two_copies_fail() {
-        injects 'inject=write:error=ENOSPC:when=2' -e 'inject=openat:error=EACCES:when=2' -P "$work/of both/data/a" -P "$work/of both/data/b" \
+        injects 'inject=write:error=ENOSPC:when=2' -e 'inject=openat:error=EACCES:when=2' -P "$work/of both/data/a" -P \
+            "$work/of both/data/b" \
             "$program" make "$work/two" "$work/of both" md5
     }
-    explain 'two copies that fail: make' 3 "bag: $work/of both/data/a: No space left on device (os error 28)" two_copies_fail
-    # No octets are asked of the system where none are left to be read: of short files, and of files as long as a piece, or nearly.
+    explain 'two copies that fail: make' 3 "bag: $work/of both/data/a: No space left on device (os error 28)" \
+        two_copies_fail
+    # No octets are asked of the system where none are left to be read: of short files, and of files as long as a piece,
+    # or nearly.
     mkdir "$work/pieces"
     for length in 0 1 65536 131071 131072 131073 262144 300000; do
         head -c "$length" /dev/zero >"$work/pieces/$length"
@@ -241,8 +255,8 @@ if strace -o "$work/calls" true 2>"$work/no strace"; then
             no_empty_reads make "$work/pieces" "$work/of pieces by $names" $names
         expect "no read of no octets: check by $names" 1 valid no_empty_reads check "$work/of pieces by $names"
     done
-    # fails_at CALL ERROR NAME COMMAND..: the first of these calls on this name fails. Another try would not, and none is made: what is
-    # told is the error of that one.
+    # fails_at CALL ERROR NAME COMMAND..: the first of these calls on this name fails. Another try would not, and none
+    # is made: what is told is the error of that one.
     fails_at() {
         injects "inject=$1:error=$2:when=1" -P "$3" "$program" "${@:4}"
     }
@@ -263,7 +277,8 @@ if strace -o "$work/calls" true 2>"$work/no strace"; then
             fails_at openat ENFILE "$made/$name" make "$work/few" "$made" md5
         expect "make: a file that is not made at first: $name is not there" 0 '' nothing "$made/$name"
         rm -r "$made"
-        explain "make: a file that is not written at first: $name" 3 "bag: $made/$name: Disk quota exceeded (os error 122)" \
+        explain "make: a file that is not written at first: $name" 3 \
+            "bag: $made/$name: Disk quota exceeded (os error 122)" \
             fails_at write EDQUOT "$made/$name" make "$work/few" "$made" md5
         expect "make: a file that is not written at first: $name is empty" 0 0 stat -c %s "$made/$name"
         rm -r "$made"
@@ -287,7 +302,8 @@ if strace -o "$work/calls" true 2>"$work/no strace"; then
     expect 'intake: a file that is not opened at first' 3 $'refused data/a: reader\ntaken data/k/x' \
         fails_at openat ENFILE "$made/data/a" intake "$ledger" t1 "$made"
     expect 'calls that fail once: begin again' 0 new "$program" begin "$ledger" t2 "$made"
-    for failure in 'statx EIO data' 'statx EIO data/k' 'statx EIO data/k/x' 'openat ENFILE data/k/x' 'read EIO data/k/x'; do
+    for failure in 'statx EIO data' 'statx EIO data/k' 'statx EIO data/k/x' 'openat ENFILE data/k/x' \
+        'read EIO data/k/x'; do
         read -r failing error name <<<"$failure"
         cause=supplier
         [ "$failing" != read ] || cause=reader
@@ -311,7 +327,8 @@ if strace -o "$work/calls" true 2>"$work/no strace"; then
             fails_at openat ENFILE "$exported/$name" export "$ledger" t1 "$exported"
         expect "export: a file that is not made at first: $name is not there" 0 '' nothing "$exported/$name"
         rm -r "$exported"
-        explain "export: a file that is not written at first: $name" 3 "bag: $exported/$name: Disk quota exceeded (os error 122)" \
+        explain "export: a file that is not written at first: $name" 3 \
+            "bag: $exported/$name: Disk quota exceeded (os error 122)" \
             fails_at write EDQUOT "$exported/$name" export "$ledger" t1 "$exported"
         expect "export: a file that is not written at first: $name is empty" 0 0 stat -c %s "$exported/$name"
         rm -r "$exported"
@@ -322,7 +339,8 @@ if strace -o "$work/calls" true 2>"$work/no strace"; then
         expect "no memory in the system for a folder, $number: check" 3 'bag: memory' \
             injects "inject=openat:error=ENOMEM:when=$((start + number))" "$program" check "$made"
     done
-    expect 'no memory in the system for a folder: fetch' 3 'bag: memory' fails_at statx ENOMEM "$made" fetch "$ledger" t2 "$made"
+    expect 'no memory in the system for a folder: fetch' 3 'bag: memory' \
+        fails_at statx ENOMEM "$made" fetch "$ledger" t2 "$made"
     expect 'no memory in the system for a folder: export' 3 'bag: memory' \
         fails_at mkdir ENOMEM "$exported" export "$ledger" t1 "$exported"
     expect 'no memory in the system for a folder: make' 3 'bag: memory' \
@@ -335,17 +353,19 @@ if strace -o "$work/calls" true 2>"$work/no strace"; then
     done
     explain 'a ledger that cannot be looked at' 3 "bag: $work/once/ledger: Input/output error (os error 5)" \
         injects inject=statx:error=EIO -P "$work/once/ledger" "$program" list "$work/once/ledger"
-    # Each call on a ledger, from the first that looks at its name to the last before the store reads it: the system's error is told as
-    # it is, and that it finds no memory as that.
+    # Each call on a ledger, from the first that looks at its name to the last before the store reads it: the system's
+    # error is told as it is, and that it finds no memory as that.
     strace -o "$work/calls" "$program" list "$work/once/ledger" >"$work/printed_by_calls"
     last=$(sed '/^fdatasync(/q' "$work/calls" | grep -nF "\"$work/once/ledger\"" | tail -n 1 | cut -d : -f 1)
-    awk -F '(' -v last="$last" '{ number[$1]++ } NR > last { exit } /^readlink\(/ { is_begun = 1 } is_begun { print $1, number[$1] }' \
+    awk -F '(' -v last="$last" \
+        '{ number[$1]++ } NR > last { exit } /^readlink\(/ { is_begun = 1 } is_begun { print $1, number[$1] }' \
         "$work/calls" | grep -E '^(readlink|statx|openat|fcntl|getrandom|fchown|fchmod|fsync) ' >"$work/numbered"
     expect 'calls on a ledger that is opened' 0 '' [ "$(wc -l <"$work/numbered")" -gt 25 ]
     while read -r name number; do
         # An empty log that such a command leaves is not made again.
         rm -f "$work/once/ledger-wal"
-        explain "a ledger that cannot be opened: $name $number" 3 "bag: $work/once/ledger: Input/output error (os error 5)" \
+        explain "a ledger that cannot be opened: $name $number" 3 \
+            "bag: $work/once/ledger: Input/output error (os error 5)" \
             injects "inject=$name:error=EIO:when=$number" "$program" list "$work/once/ledger"
         rm -f "$work/once/ledger-wal"
         expect "a ledger that cannot be opened: $name $number, without memory" 3 'bag: memory' \
@@ -354,12 +374,14 @@ if strace -o "$work/calls" true 2>"$work/no strace"; then
     # From there on it is the store that fails.
     explain 'a ledger whose first page cannot be read' 3 "bag: $work/once/ledger: disk I/O error" \
         injects 'inject=pread64:error=EIO:when=1' -P "$work/once/ledger" "$program" list "$work/once/ledger"
-    # A new ledger, of which each write in turn and all after it fail until it is made: nothing is left of it. In a file that was empty
-    # and cannot be emptied again its log stays too, without which part of a first page would be no database: so a ledger is made next.
+    # A new ledger, of which each write in turn and all after it fail until it is made: nothing is left of it. In a file
+    # that was empty and cannot be emptied again its log stays too, without which part of a first page would be no
+    # database: so a ledger is made next.
     is_gone() {
         nothing "$1" && nothing "$1-wal"
     }
-    strace -o "$work/calls" -e trace=pwrite64,openat "$program" begin "$work/once/made" t1 "$work/once" >"$work/printed_by_calls"
+    strace -o "$work/calls" -e trace=pwrite64,openat "$program" begin "$work/once/made" t1 "$work/once" \
+        >"$work/printed_by_calls"
     writes=$(sed '/once\/"/q' "$work/calls" | grep -c '^pwrite64(')
     expect 'writes to a new ledger' 0 '' [ "$writes" -gt 5 ]
     for number in $(seq "$writes"); do
@@ -368,14 +390,17 @@ if strace -o "$work/calls" true 2>"$work/no strace"; then
         expect "a new ledger that cannot be written, $number of $writes: nothing is left" 0 '' is_gone "$work/once/new"
         : >"$work/once/empty"
         expect "an empty file that cannot be emptied again, $number of $writes" 3 'bag: store' \
-            injects "inject=pwrite64:error=EIO:when=$number+" -e inject=ftruncate:error=EIO "$program" begin "$work/once/empty" t1 "$work/once"
-        expect "an empty file that cannot be emptied again, $number of $writes: once more" 0 new "$program" begin "$work/once/empty" t1 "$work/once"
+            injects "inject=pwrite64:error=EIO:when=$number+" -e inject=ftruncate:error=EIO "$program" begin \
+            "$work/once/empty" t1 "$work/once"
+        expect "an empty file that cannot be emptied again, $number of $writes: once more" 0 new \
+            "$program" begin "$work/once/empty" t1 "$work/once"
         rm -f "$work/once/new" "$work/once/new-wal" "$work/once/empty"
     done
     # The same where a single call fails: once the new file and its log are locked, from the last look at its name on.
     strace -o "$work/calls" "$program" begin "$work/once/made again" t1 "$work/once" >"$work/printed_by_calls"
     first=$(sed '/^fdatasync(/q' "$work/calls" | grep -nF "\"$work/once/made again\"" | tail -n 1 | cut -d : -f 1)
-    awk -F '(' -v first="$first" '{ number[$1]++ } /once\/", O_RDONLY/ { exit } NR > first { print $1, number[$1] }' "$work/calls" \
+    awk -F '(' -v first="$first" '{ number[$1]++ } /once\/", O_RDONLY/ { exit } NR > first { print $1, number[$1] }' \
+        "$work/calls" \
         | grep -E '^(statx|pread64|pwrite64|fdatasync) ' >"$work/numbered"
     expect 'calls on a new ledger that is locked' 0 '' [ "$(wc -l <"$work/numbered")" -gt 25 ]
     while read -r name number; do
@@ -384,38 +409,47 @@ if strace -o "$work/calls" true 2>"$work/no strace"; then
         expect "a new ledger in which one call fails: $name $number: nothing is left" 0 '' is_gone "$work/once/new"
         rm -f "$work/once/new" "$work/once/new-wal"
     done <"$work/numbered"
-    # If the new file or its log cannot be opened and locked, the file stays and is empty, since another command may be about to use it.
+    # If the new file or its log cannot be opened and locked, the file stays and is empty, since another command may be
+    # about to use it.
     made=$(grep -nE '^openat\(.*O_CREAT.* = [0-9]' "$work/calls" | head -n 1 | cut -d : -f 1)
     locked=$(sed '/^fdatasync(/q' "$work/calls" | grep -n '^fcntl(' | tail -n 1 | cut -d : -f 1)
-    awk -F '(' -v made="$made" -v locked="$locked" '{ number[$1]++ } NR > locked { exit } NR > made { print $1, number[$1] }' \
+    awk -F '(' -v made="$made" -v locked="$locked" \
+        '{ number[$1]++ } NR > locked { exit } NR > made { print $1, number[$1] }' \
         "$work/calls" | grep -E '^(readlink|statx|openat|fcntl) ' >"$work/numbered"
     expect 'calls that lock a new ledger' 0 '' [ "$(wc -l <"$work/numbered")" -gt 10 ]
     while read -r name number; do
-        explain "a new ledger that cannot be locked: $name $number" 3 "bag: $work/once/new: Input/output error (os error 5)" \
+        explain "a new ledger that cannot be locked: $name $number" 3 \
+            "bag: $work/once/new: Input/output error (os error 5)" \
             injects "inject=$name:error=EIO:when=$number" "$program" begin "$work/once/new" t1 "$work/once"
         expect "a new ledger that cannot be locked: $name $number: it is empty" 0 0 stat -c %s "$work/once/new"
-        expect "a new ledger that cannot be locked: $name $number: once more" 0 new "$program" begin "$work/once/new" t1 "$work/once"
+        expect "a new ledger that cannot be locked: $name $number: once more" 0 new \
+            "$program" begin "$work/once/new" t1 "$work/once"
         rm -f "$work/once/new"
     done <"$work/numbered"
     # A delivery that is not on the disk: the log of the ledger cannot be written to it, once it was begun.
     for number in {1..6}; do
         rm -f "$work/once/delivered" "$work/once/delivered-wal"
-        expect "a delivery that fails, $number: begin" 0 new "$program" begin "$work/once/delivered" t1 examples/first-bag
+        expect "a delivery that fails, $number: begin" 0 new \
+            "$program" begin "$work/once/delivered" t1 examples/first-bag
         explain "a delivery that fails, $number" 3 "bag: $work/once/delivered: disk I/O error" \
-            injects "inject=fdatasync:error=EIO:when=$number" "$program" intake "$work/once/delivered" t1 examples/first-bag
+            injects "inject=fdatasync:error=EIO:when=$number" "$program" intake "$work/once/delivered" t1 \
+            examples/first-bag
     done
-    # Of a ledger in which no transfer was opened the log is removed first: without its file it would be that of another one.
+    # Of a ledger in which no transfer was opened the log is removed first: without its file it would be that of another
+    # one.
     removed() {
-        strace -o "$work/calls" -e trace=/^unlink "$program" begin "$work/once/new" t1 "$work/two" >"$work/printed_by_calls" 2>&1
+        strace -o "$work/calls" -e trace=/^unlink "$program" begin "$work/once/new" t1 "$work/two" \
+            >"$work/printed_by_calls" 2>&1
         sed -n 's/^unlink[^"]*"\([^"]*\)".*/\1/p' "$work/calls"
     }
     expect 'a new ledger that is removed again' 0 "$work/once/new-wal"$'\n'"$work/once/new" removed
-    # meanwhile CHANGE LEDGER WORD..: runs this command on a ledger, and does this to it after the first of these calls on it, that which
-    # opens it if nothing else is said.
+    # meanwhile CHANGE LEDGER WORD..: runs this command on a ledger, and does this to it after the first of these calls
+    # on it, that which opens it if nothing else is said.
     meanwhile() {
         local pid status=0 call=${call-openat}
         rm -f "$work/calls"
-        strace -f -o "$work/calls" -P "$2" -e "trace=$call" -e "inject=$call:signal=SIGSTOP:when=1" "$program" "${@:3}" &
+        strace -f -o "$work/calls" -P "$2" -e "trace=$call" -e "inject=$call:signal=SIGSTOP:when=1" "$program" \
+            "${@:3}" &
         for _ in {1..3000}; do
             pid=$(sed -n 's/^\([0-9]*\) *--- stopped by SIGSTOP ---$/\1/p' "$work/calls" 2>"$work/gone")
             [ -z "$pid" ] || break
@@ -435,10 +469,13 @@ if strace -o "$work/calls" true 2>"$work/no strace"; then
     explain 'a ledger that is emptied while it is opened' 3 "bag: $work/once/emptied: it is empty" \
         meanwhile ': >"$2"' "$work/once/emptied" list "$work/once/emptied"
     expect 'a ledger that is emptied while it is opened: no log is left' 0 '' nothing "$work/once/emptied-wal"
-    explain 'a new ledger that another program writes to while it is opened' 3 "bag: $work/once/octet: it is not a file that can be a database" \
+    explain 'a new ledger that another program writes to while it is opened' 3 \
+        "bag: $work/once/octet: it is not a file that can be a database" \
         meanwhile 'printf x >"$2"' "$work/once/octet" begin "$work/once/octet" t1 "$work/once"
-    expect 'a new ledger that another program writes to while it is opened: its octet stays' 0 '' cmp "$work/once/octet" <(printf x)
-    expect 'a new ledger that another program writes to while it is opened: no log is left' 0 '' nothing "$work/once/octet-wal"
+    expect 'a new ledger that another program writes to while it is opened: its octet stays' 0 '' \
+        cmp "$work/once/octet" <(printf x)
+    expect 'a new ledger that another program writes to while it is opened: no log is left' 0 '' \
+        nothing "$work/once/octet-wal"
     # gone COMMAND..: a ledger that is removed after it was looked at and before it is opened.
     gone() {
         cp "$work/once/ledger" "$work/once/gone"
@@ -450,11 +487,14 @@ if strace -o "$work/calls" true 2>"$work/no strace"; then
     expect 'a ledger that is removed before it is opened: begin makes none' 0 '' is_gone "$work/once/gone"
     explain 'a ledger that is removed when it was made' 3 "bag: $work/once/new: it is in use" \
         meanwhile 'rm "$2"' "$work/once/new" begin "$work/once/new" t1 "$work/once"
-    expect 'a ledger that is removed when it was made: nothing is written' 0 '' test ! -s "$work/once/new" -a ! -s "$work/once/new-wal"
-    if unshare -m sh -c "mkdir '$work/disk' && mount -t tmpfs bag '$work/disk'" 2>"$work/no mount"; then
-        # on_two_disks: a ledger, over which another disk is mounted while it is opened. The ledger on that one has the same number.
+    expect 'a ledger that is removed when it was made: nothing is written' 0 '' \
+        test ! -s "$work/once/new" -a ! -s "$work/once/new-wal"
+    if own_mounts sh -c "mkdir '$work/disk' && mount -t tmpfs bag '$work/disk'" 2>"$work/no mount"; then
+        # on_two_disks: a ledger, over which another disk is mounted while it is opened. The ledger on that one has the
+        # same number.
         on_two_disks() {
-            unshare -m bash -c 'disk() { mount -t tmpfs bag "$work/disk" && cp "$work/once/ledger" "$work/disk/ledger"; }
+            own_mounts bash -c \
+                'disk() { mount -t tmpfs bag "$work/disk" && cp "$work/once/ledger" "$work/disk/ledger"; }
                 disk && meanwhile disk "$work/disk/ledger" list "$work/disk/ledger"'
         }
         export -f meanwhile
@@ -473,30 +513,38 @@ if strace -o "$work/calls" true 2>"$work/no strace"; then
     reads=$(calls pread64 "$program" list "$work/long ledger")
     explain 'a ledger that cannot be read while it is verified' 3 "bag: $work/long ledger: disk I/O error" \
         injects "inject=pread64:error=EIO:when=$((reads - 100))" "$program" list "$work/long ledger"
-    # So are two long payload files, side by side. A read that fails is told, though it would not fail again.
+    # So are two long payload files, one after the other. A read that fails is told, though it would not fail again.
     mkdir -p "$work/two/data"
     head -c 6M /dev/urandom >"$work/two/data/f"
     head -c 6M /dev/urandom >"$work/two/data/g"
     cp examples/first-bag/bagit.txt "$work/two"
     (cd "$work/two" && sha256sum data/f data/g >manifest-sha256.txt)
     expect 'two long payload files' 0 new "$program" begin "$work/two ledger" t1 "$work/two"
-    expect 'two long payload files: intake' 0 'taken data/f'$'\n''taken data/g' "$program" intake "$work/two ledger" t1 "$work/two"
+    expect 'two long payload files: intake' 0 'taken data/f'$'\n''taken data/g' \
+        "$program" intake "$work/two ledger" t1 "$work/two"
     reads=$(calls pread64 "$program" list "$work/two ledger")
     expect 'two long payload files: a ledger that is read again' 0 '' [ "$reads" -gt 3000 ]
     for number in $(seq "$((reads - 2000))" 285 "$reads"); do
-        explain "a read that fails once among two long payload files, $number of $reads" 3 "bag: $work/two ledger: disk I/O error" \
+        explain "a read that fails once among two long payload files, $number of $reads" 3 \
+            "bag: $work/two ledger: disk I/O error" \
             injects "inject=pread64:error=EIO:when=$number" "$program" list "$work/two ledger"
     done
-    # If the first of them is damaged, that is told, since it comes first, unless one of its own reads fails.
+    # If the first of them is damaged, that is told, and the second is not read. If a read of the first fails, that is told instead.
     python3 -c "import sqlite3, sys
 db = sqlite3.connect(sys.argv[1])
-db.execute('UPDATE piece SET body = zeroblob(65536) WHERE n = 95 AND item = (SELECT id FROM held WHERE path = ?)', ('data/f',))
+db.execute('UPDATE piece SET body = zeroblob(65536) WHERE n = 95 AND item = (SELECT id FROM held WHERE path = ?)',
+    ('data/f',))
 db.commit()" "$work/two ledger"
-    for number in $(seq "$((reads - 1800))" 67 "$((reads - 800))"); do
-        injects "inject=pread64:error=EIO:when=$number" "$program" list "$work/two ledger" 2>/dev/null
-    done | sort -u >"$work/told"
-    expect 'a read that fails once beside a damaged payload file' 0 $'bag: damaged t1 data/f\nbag: store' cat "$work/told"
-    # The last reads of a command come after that: of names, of tag files and of pieces. A store that fails then is told as that too.
+    expect 'two long payload files, one damaged' 3 'bag: damaged t1 data/f' "$program" list "$work/two ledger"
+    fewer=$(calls pread64 "$program" list "$work/two ledger")
+    expect 'two long payload files, one damaged: the other is not read' 0 '' [ "$fewer" -lt "$((reads - 1000))" ]
+    for number in $(seq "$((fewer - 1000))" 76 "$fewer"); do
+        explain "a read of a damaged payload file that fails once, $number of $fewer" 3 \
+            "bag: $work/two ledger: disk I/O error" \
+            injects "inject=pread64:error=EIO:when=$number" "$program" list "$work/two ledger"
+    done
+    # The last reads of a command come after that: of names, of tag files and of pieces. A store that fails then is told
+    # as that too.
     expect 'a long ledger: what begin would read' 0 again "$program" begin "$work/long ledger" t1 "$work/long"
     for command in list report audit begin intake export; do
         words=("$work/long ledger" t1)
@@ -534,7 +582,8 @@ db.commit()" "$work/two ledger"
     cp "$work/another/data/g" "$work/longer/data"
     (cd "$work/longer" && md5sum data/* >manifest-md5.txt)
     expect 'a long ledger, and another file: begin' 0 new "$program" begin "$work/longer ledger" t1 "$work/longer"
-    expect 'a long ledger, and another file: the long one' 0 'taken data/f' "$program" intake "$work/longer ledger" t1 "$work/long"
+    expect 'a long ledger, and another file: the long one' 0 'taken data/f' \
+        "$program" intake "$work/longer ledger" t1 "$work/long"
     cp "$work/longer ledger" "$work/longer before"
     # before_answer CALL: how often the command that was traced last made this call before its answer.
     before_answer() {
@@ -548,12 +597,13 @@ db.commit()" "$work/two ledger"
 bag: $work/longer ledger: disk I/O error
 3" sh -c '"$@" 2>&1; echo "$?"' sh strace -o "$work/calls" -e "inject=pread64:error=EIO:when=$number" \
             "$program" intake "$work/longer ledger" t1 "$work/another"
-        expect "a ledger that cannot be read where a file is put in it, $number of $reads: it fails once" 0 1 grep -c INJECTED "$work/calls"
+        expect "a ledger that cannot be read where a file is put in it, $number of $reads: it fails once" 0 1 \
+            grep -c INJECTED "$work/calls"
         expect "a ledger that cannot be read where a file is put in it, $number of $reads: what is held" 1 \
             $'manifest-md5.txt: missing: data/g\nnot complete' "$program" report "$work/longer ledger" t1
     done
-    # each_of FOUND CALL ERROR TEXT WORD..: runs the command on a copy of this ledger, or where there is none, once for each of these calls
-    # before its answer, which fails. That error is told, and the file of a ledger stays as it was.
+    # each_of FOUND CALL ERROR TEXT WORD..: runs the command on a copy of this ledger, or where there is none, once for
+    # each of these calls before its answer, which fails. That error is told, and the file of a ledger stays as it was.
     each_of() {
         local number of start answered
         start=$(calls "$2" "$program")
@@ -563,7 +613,8 @@ bag: $work/longer ledger: disk I/O error
         [ "$of" -gt "$((start + 9))" ] || echo "only $of calls"
         for number in $(seq "$((start + 1))" "$of"); do
             found_again "$1"
-            answered=$(injects "inject=$2:error=$3:when=$number" "$program" "${@:5}" 2>&1) && echo "call $number of $of: status 0"
+            answered=$(injects "inject=$2:error=$3:when=$number" "$program" "${@:5}" 2>&1) \
+                && echo "call $number of $of: status 0"
             [ "$answered" = $'bag: store\n'"bag: $work/committed: $4" ] || echo "call $number of $of: $answered"
             [ "$1" = none ] || cmp "$work/$1" "$work/committed"
         done
@@ -573,6 +624,7 @@ bag: $work/longer ledger: disk I/O error
         [ "$1" = none ] || cp "$work/$1" "$work/committed"
     }
     expect 'calls on a ledger that fail: begin' 0 new "$program" begin "$work/begun" t1 examples/first-bag
+    cp "$work/begun" "$work/opened"
     expect 'calls on a ledger that fail: intake' 0 $'taken data/a.txt\ntaken data/e.txt' \
         "$program" intake "$work/begun" t1 examples/first-bag
     expect 'calls on a ledger that fail: one of format 1' 0 '' env PYTHONPATH=tests python3 -B -c \
@@ -581,7 +633,8 @@ bag: $work/longer ledger: disk I/O error
         expect "each read of a ledger that fails: list, $found" 0 '' \
             each_of "$found" pread64 EIO 'disk I/O error' list "$work/committed"
     done
-    for failure in 'pwrite64 ENOSPC database or disk is full' 'pwrite64 EIO disk I/O error' 'fdatasync EIO disk I/O error'; do
+    for failure in 'pwrite64 ENOSPC database or disk is full' 'pwrite64 EIO disk I/O error' \
+        'fdatasync EIO disk I/O error'; do
         read -r failing error text <<<"$failure"
         expect "each $failing that fails with $error: a new ledger" 0 '' \
             each_of none "$failing" "$error" "$text" begin "$work/committed" t1 examples/first-bag
@@ -589,6 +642,41 @@ bag: $work/longer ledger: disk I/O error
             each_of begun "$failing" "$error" "$text" begin "$work/committed" t2 examples/first-bag
         expect "each $failing that fails with $error: a ledger of format 1" 0 '' \
             each_of older "$failing" "$error" "$text" list "$work/committed"
+    done
+    # each_after CALL ERROR TEXT LINES WORD..: the same, once for each of these calls after its answer: while the log is
+    # copied into the file. The answer stands, and one line says that the log stays, and the first error. The next
+    # command copies it.
+    each_after() {
+        local number of before answered status
+        found_again opened
+        strace -o "$work/calls" "$program" "${@:5}" >"$work/printed_by_calls"
+        before=$(before_answer "$1")
+        of=$(grep -c "^$1(" "$work/calls")
+        [ "$of" -gt "$before" ] || echo "no such call after the answer"
+        for number in "$((before + 1))+" $(seq "$((before + 1))" "$of"); do
+            found_again opened
+            status=0
+            answered=$(injects "inject=$1:error=$2:when=$number" "$program" "${@:5}" 2>"$work/told") || status=$?
+            [ "$status $answered" = "0 $4" ] || echo "call $number of $of: status $status: $answered"
+            diff <(echo "bag: $work/committed: its log stays beside it, and both have to be kept together: $3") \
+                "$work/told"
+            [ -s "$work/committed-wal" ] || echo "call $number of $of: no log"
+            answered=$("$program" "${@:5}" 2>&1)
+            [ "$answered" = "$(sed 's/^taken/repeated/; s/^new/again/' <<<"$4")" ] \
+                || echo "call $number of $of, once more: $answered"
+            nothing "$work/committed-wal" || echo "call $number of $of, once more: there is a log"
+        done
+    }
+    for failure in 'pwrite64 ENOSPC database or disk is full' 'pwrite64 EIO disk I/O error' \
+        'fdatasync EIO disk I/O error' \
+        'ftruncate EIO disk I/O error' 'pread64 EIO disk I/O error'; do
+        read -r failing error text <<<"$failure"
+        expect "each $failing after the answer that fails with $error: intake" 0 '' \
+            each_after "$failing" "$error" "$text" \
+            $'taken data/a.txt\ntaken data/e.txt' intake "$work/committed" t1 examples/first-bag
+        expect "each $failing after the answer that fails with $error: begin" 0 '' \
+            each_after "$failing" "$error" "$text" \
+            new begin "$work/committed" t2 examples/first-bag
     done
     for error in ENOSPC EPIPE EIO EDQUOT; do
         expect "writes that fail with $error" 3 '' \
@@ -601,7 +689,8 @@ bag: $work/longer ledger: disk I/O error
     expect 'calls failed' 0 '' [ "$injected" -gt 20 ]
     calls=5
     [ "${1-}" != --all ] || calls=0
-    expect 'calls that fail in the commands' 0 '' env TMPDIR="$work" sh -c 'python3 -B tests/failing_commands.py "$@" >"$0"' \
+    expect 'calls that fail in the commands' 0 '' \
+        env TMPDIR="$work" sh -c 'python3 -B tests/failing_commands.py "$@" >"$0"' \
         "$work/tried" "$program" "$calls" calls
     cat "$work/tried"
 else

@@ -1,12 +1,14 @@
 #!/usr/bin/env python3
-"""kills.py PROGRAM [KILLS [SEED [TRIED]]]: runs commands on ledgers, one after another in any order, and kills them at random moments.
+"""kills.py PROGRAM [KILLS [SEED [TRIED]]]: runs commands on ledgers, one after another in any order, and kills them at
+random moments.
 
-After each kill the next command must work, and must find everything that was answered before the kill (a line that was read, or
-a command that had ended), and of the killed command the first of its deliveries. In the end everything is delivered to each
-ledger, and the exported bag is the one that was delivered. Commands are killed after a random time, once the log of the ledger has
-grown by a random number of octets, or after a random number of lines. At least a third of all kills must fall among the deliveries,
-so that some of them are held and some are not, and of a hundred and more at least one before there is a ledger. It ends after KILLS
-kills (150) or some more, and writes the seed and what was tried to TRIED, or to standard output. If it fails, it prints the seed as well.
+After each kill the next command must work, and must find everything that was answered before the kill (a line that was
+read, or a command that had ended), and of the killed command the first of its deliveries. In the end everything is
+delivered to each ledger, and the exported bag is the one that was delivered. Commands are killed after a random time,
+once the log of the ledger has grown by a random number of octets, or after a random number of lines. At least a third
+of all kills must fall among the deliveries, so that some of them are held and some are not, and of a hundred and more
+at least one before there is a ledger. It ends after KILLS kills (150) or some more, and writes the seed and what was
+tried to TRIED, or to standard output. If it fails, it prints the seed as well.
 """
 import contextlib
 import hashlib
@@ -31,11 +33,12 @@ STEPS_OF_A_LEDGER = 20
 
 
 class Bag:
-    """The bag of a transfer, and folders with parts of it: whole, damaged, with files that it doesn't list, with one file, and a
-    supplier's."""
+    """The bag of a transfer, and folders with parts of it: whole, damaged, with files that it doesn't list, with one
+    file, and a supplier's."""
 
     def __init__(self, rng, folder):
-        self.contents = {f"data/{number:02}": rng.randbytes(rng.choice([0, 1, 65_536, rng.randrange(LONGEST)])) for number in range(FILES)}
+        self.contents = {f"data/{number:02}": rng.randbytes(rng.choice([0, 1, 65_536, rng.randrange(LONGEST)]))
+            for number in range(FILES)}
         self.fetched = rng.sample(sorted(self.contents), 6)
         lines = "".join(f"{hashlib.sha256(octets).hexdigest()}  {path}\n" for path, octets in self.contents.items())
         fetch = "".join(f"http://example.org/ - {path}\n" for path in self.fetched)
@@ -70,8 +73,8 @@ class Ledger:
         self.file, self.tables, self.held, self.exports = folder / "ledger", False, {}, itertools.count()
 
     def run(self, words, until=None):
-        """The status (None if it was killed) and the whole lines that were read. It is killed once `until` has returned, with what it
-        has read."""
+        """The status (None if it was killed) and the whole lines that were read. It is killed once `until` has
+        returned, with what it has read."""
         with subprocess.Popen([self.program, *words], bufsize=0, stdout=subprocess.PIPE, stderr=subprocess.PIPE) as ran:
             begun = b""
             if until is not None:
@@ -139,7 +142,8 @@ class Ledger:
         if name not in self.held:
             return 1, ["bag: no transfer"]
         if command in ("report", "audit"):
-            missing = [f"manifest-sha256.txt: missing: {path}" for path in sorted(self.bags[name].contents) if path not in self.held[name]]
+            missing = [f"manifest-sha256.txt: missing: {path}" for path in sorted(self.bags[name].contents)
+                if path not in self.held[name]]
             return (1, [*missing, "not complete"]) if missing else (0, ["valid"])
         if command == "export":
             return 0, [f"exported {len(self.bags[name].tags) + len(self.held[name])} files"]
@@ -191,7 +195,8 @@ class Ledger:
         return lambda ran: time.sleep(seconds) or b""
 
     def step(self, times):
-        """Runs a random command, which may be killed once it is known how long it takes, and then looks at what the ledger holds."""
+        """Runs a random command, which may be killed once it is known how long it takes, and then looks at what the
+        ledger holds."""
         command = self.rng.choice(["begin", "begin", *["intake"] * 8, "fetch", "report", "audit", "export", "list"])
         if not self.held and self.rng.randrange(2):
             command = "begin"
@@ -243,7 +248,8 @@ class Ledger:
         for name in names:
             lines = self.run([command, self.file, name])[1]
             lacking = {line.removeprefix("manifest-sha256.txt: missing: ") for line in lines[:-1]}
-            assert lacking <= set(self.bags[name].contents) and lines[-1] == ("not complete" if lacking else "valid"), lines
+            assert lacking <= set(self.bags[name].contents) and lines[-1] == ("not complete" if lacking
+                else "valid"), lines
             found[name] = set(self.bags[name].contents) - lacking
         return True, found
 
@@ -274,7 +280,8 @@ class Ledger:
         database.close()
         for file in self.folder.glob("copy*"):
             file.unlink()
-        # A first page that was about to be written is no database to sqlite3. Then the program tells whether anything was held.
+        # A first page that was about to be written is no database to sqlite3. Then the program tells whether anything
+        # was held.
         return self.by_reports() if tables is None else (bool(tables), found)
 
     def by_exports(self):
@@ -303,7 +310,8 @@ class Ledger:
             assert self.run(["begin", self.file, name, bag.whole])[0] == 0
             status, lines = self.run(["intake", self.file, name, bag.whole])
             held = self.held.get(name, set())
-            assert (status, lines) == (0, [f"{'repeated' if path in held else 'taken'} {path}" for path in sorted(bag.contents)]), lines
+            assert (status, lines) == (0,
+                [f"{'repeated' if path in held else 'taken'} {path}" for path in sorted(bag.contents)]), lines
             for command in ("report", "audit"):
                 assert self.run([command, self.file, name]) == (0, ["valid"])
             out = self.folder / "out"
@@ -342,7 +350,8 @@ def main(program, kills="150", seed=None, tried_file="/dev/stdout"):
     with open(tried_file, "w", encoding="ascii") as out:
         print(
             f"seed {seed}: {tried['kills']} kills of {tried['commands']} commands on {tried['ledgers']} ledgers;"
-            f" after {tried['part']} a part of the deliveries was held, and after {tried['no ledger']} there was no ledger yet",
+            f" after {tried['part']} a part of the deliveries was held,"
+            f" and after {tried['no ledger']} there was no ledger yet",
             file=out,
         )
 

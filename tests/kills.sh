@@ -4,7 +4,7 @@ set -u
 cd "$(dirname -- "$0")/.." || exit 1
 . tests/common.bash
 
-build_first
-expect 'kills' 0 '' env TMPDIR="$work" python3 -B tests/kills.py crates/bag_program/out/bag_program "${KILLS-150}" '' "$work/kills"
+take_program
+expect 'kills' 0 '' env TMPDIR="$work" python3 -B tests/kills.py "$program" "${KILLS-150}" '' "$work/kills"
 cat "$work/kills"
 finish

@@ -1,9 +1,9 @@
 #!/usr/bin/env python3
-"""left_logs.py PROGRAM: ledgers whose log is still next to them, because a command was killed or its log couldn't be copied into
-the database. What the log has was answered, so no command may lose it, whatever it answers itself.
+"""left_logs.py PROGRAM: ledgers whose log is still next to them, because a command was killed or its log couldn't be
+copied into the database. What the log has was answered, so no command may lose it, whatever it answers itself.
 
-A command is held up, without any waiting for a time to pass, by an output that is a full pipe: it stops before its first line. At
-the end it prints how much was tried.
+A command is held up, without any waiting for a time to pass, by an output that is a full pipe: it stops before its
+first line. At the end it prints how much was tried.
 """
 import fcntl
 import os
@@ -130,11 +130,17 @@ def a_refused_ledger_keeps_its_log(make):
         place = damaged_in_the_log(killed(make), damage)
         place.refuses(line)
         assert log_of(place.ledger).stat().st_size > 0
-    # All of a ledger is in its log, and its file is empty. Only a command that makes a ledger there touches the log.
+    # All of a ledger is in its log, and its file is empty or gone: no command touches the log, and none makes a file.
+    # With its first page the file is whole again.
     emptied = killed(make)
     in_the_log(emptied, emptied.ledger, "PRAGMA journal_mode = WAL; VACUUM")
+    first = emptied.ledger.read_bytes()[:4_096]
     emptied.ledger.write_bytes(b"")
-    emptied.refuses("bag: not a ledger", but=["begin"])
+    emptied.refuses("bag: store")
+    emptied.ledger.unlink()
+    emptied.refuses("bag: store")
+    emptied.ledger.write_bytes(first)
+    assert emptied.run(*emptied.words("audit")) == (0, ["valid"])
     # If an octet is left of the file, it is opened with its log.
     cut = killed(make)
     in_the_log(cut, cut.ledger, "PRAGMA journal_mode = WAL; VACUUM")
@@ -142,12 +148,13 @@ def a_refused_ledger_keeps_its_log(make):
     assert cut.run(*cut.words("audit")) == (0, ["valid"])
     # The store marks the end of a log that another program wrote, so it isn't compared octet by octet.
     other = make(SMALL)
-    in_the_log(other, other.ledger, "PRAGMA journal_mode = WAL; CREATE TABLE meta (k TEXT, v TEXT); INSERT INTO meta VALUES ('k', 'v')")
+    in_the_log(other, other.ledger,
+        "PRAGMA journal_mode = WAL; CREATE TABLE meta (k TEXT, v TEXT); INSERT INTO meta VALUES ('k', 'v')")
     for command in ALL:
         assert other.run(*other.words(command)) == (3, ["bag: not a ledger"]), command
         assert log_of(other.ledger).stat().st_size > 0, command
     assert other.sql("SELECT * FROM meta") == [("k", "v")]
-    return len(DAMAGES) + 3
+    return len(DAMAGES) + 4
 
 
 def damaged_in_the_log(place, damage):
@@ -160,7 +167,8 @@ def damaged_in_the_log(place, damage):
 
 
 def in_the_log(place, database, text):
-    """Has sqlite3 change this database, and makes the ledger a copy of it, with the log as it is before the database is closed."""
+    """Has sqlite3 change this database, and makes the ledger a copy of it, with the log as it is before the database is
+    closed."""
     opened = sqlite3.connect(database)
     opened.executescript("PRAGMA wal_autocheckpoint = 0")
     opened.executescript(text)
@@ -174,14 +182,15 @@ def in_the_log(place, database, text):
 
 
 def little_memory_loses_no_log(make):
-    """With too little memory to open the ledger the log stays as it was; with more it is used, also if the work then wants for memory.
-    Returns how many limits there were."""
+    """With too little memory to open the ledger the log stays as it was; with more it is used, also if the work then
+    wants for memory. Returns how many limits there were."""
     place = killed(make, {"data/a": os.urandom(300_000)})
     files = [(file, file.read_bytes()) for file in place.ledger.parent.iterdir()]
     seen, limits = set(), range(2_000, 64_000, 1_000)
     for limit in limits:
         limited = lambda: resource.setrlimit(resource.RLIMIT_AS, (limit * 1024, limit * 1024))
-        ran = subprocess.run([place.program, *place.words("audit")], preexec_fn=limited, capture_output=True, timeout=60, check=False)
+        ran = subprocess.run([place.program, *place.words("audit")], preexec_fn=limited, capture_output=True,
+            timeout=60, check=False)
         if ran.stdout == b"bag: memory\n" or ran.returncode not in (0, 1, 3):
             seen.add("memory" if ran.stdout else "not started")
             if {file: file.read_bytes() for file in place.ledger.parent.iterdir()} == dict(files):
@@ -200,14 +209,15 @@ def little_memory_loses_no_log(make):
 
 
 def each_log_has_its_own_salts(make):
-    """The salts in the header of a log, by which SQLite tells its pages from those of an older log, are drawn anew for each."""
+    """The salts in the header of a log, by which SQLite tells its pages from those of an older log, are drawn anew for
+    each."""
     salts = [log_of(killed(make).ledger).read_bytes()[16:24] for _ in range(2)]
     assert salts[0] != salts[1], salts
 
 
 def a_log_is_named_after_its_file(make):
-    """A ledger that is named by a link has its log next to its file, where it is found under each name. Returns how many names
-    there were."""
+    """A ledger that is named by a link has its log next to its file, where it is found under each name. Returns how
+    many names there were."""
     names = ["at/ledger", "link", "far/link", "far/again", "far/../link"]
     for first, then in zip(names, [*names[1:], names[0]]):
         place = make(SMALL)
@@ -225,8 +235,8 @@ def a_log_is_named_after_its_file(make):
 
 
 def a_log_that_cannot_be_copied_stays(make):
-    """If the database can't be written when it is closed, the log stays, and the next command finds what was answered. Returns how
-    many limits there were."""
+    """If the database can't be written when it is closed, the log stays, and the next command finds what was answered.
+    Returns how many limits there were."""
     contents = {"data/a": os.urandom(400_000), "data/b": b"abc"}
     stayed, limits = 0, range(5_000, 600_000, 35_000)
     for limit in limits:
@@ -252,9 +262,11 @@ def main(program):
         make = lambda contents: Place(os.path.abspath(program), next(places), contents)
         each_folder_is_answered(make)
         each_log_has_its_own_salts(make)
-        used, refused, names = a_log_is_used(make), a_refused_ledger_keeps_its_log(make), a_log_is_named_after_its_file(make)
+        used, refused = a_log_is_used(make), a_refused_ledger_keeps_its_log(make)
+        names = a_log_is_named_after_its_file(make)
         little, full = little_memory_loses_no_log(make), a_log_that_cannot_be_copied_stays(make)
-    print(f"{used} logs used, {refused} refused ledgers with a log, {names} names, {little} limits of memory, {full} of a file")
+    print(f"{used} logs used, {refused} refused ledgers with a log, {names} names, {little} limits of memory,"
+          f" {full} of a file")
 
 
 if __name__ == "__main__":

@@ -1,8 +1,8 @@
 #!/usr/bin/env python3
-"""long_items.py PROGRAM [COUNT]: ledgers with long payload files, which are read side by side when they are opened.
+"""long_items.py PROGRAM [COUNT]: ledgers with long payload files, of several pieces each.
 
-sqlite3 writes each ledger as docs/FORMAT.md says. It is opened; then some of its payload files are damaged, each in one of several
-ways, and the first of them by path must be told. At the end it prints how much was tried.
+sqlite3 writes each ledger as docs/FORMAT.md says. It is opened; then some of its payload files are damaged, each in one
+of several ways, and the first of them by path must be told. At the end it prints how much was tried.
 """
 import collections
 import contextlib
@@ -17,9 +17,11 @@ import tempfile
 from command_ledgers import DECLARATION, PIECE, tables
 
 # One piece and more, with ends within, at and behind a block of 64 octets.
-SIZES = [PIECE + 1, PIECE + 63, PIECE + 64, PIECE + 65, 2 * PIECE - 1, 2 * PIECE, 2 * PIECE + 1, 3 * PIECE, 3 * PIECE + 4_000, 5 * PIECE + 77]
+SIZES = [PIECE + 1, PIECE + 63, PIECE + 64, PIECE + 65, 2 * PIECE - 1, 2 * PIECE, 2 * PIECE + 1, 3 * PIECE,
+    3 * PIECE + 4_000, 5 * PIECE + 77]
 SHORT = [0, 1, 100, PIECE - 1, PIECE]
-ALGORITHMS = [["md5"], ["sha1"], ["sha256"], ["md5", "sha256"], ["md5", "sha1", "sha256"], ["sha512"], ["sha256", "sha512"]]
+ALGORITHMS = [["md5"], ["sha1"], ["sha256"], ["md5", "sha256"], ["md5", "sha1", "sha256"], ["sha512"],
+    ["sha256", "sha512"]]
 
 
 def pieces_of(octets):
@@ -27,7 +29,8 @@ def pieces_of(octets):
 
 
 def write(file, contents, algorithms):
-    """A ledger of format 2 with one transfer, t1, that has these payload files, whose numbers don't go by their paths."""
+    """A ledger of format 2 with one transfer, t1, that has these payload files, whose numbers don't go by their
+    paths."""
     with contextlib.closing(sqlite3.connect(file)) as database:
         for text in tables():
             database.execute(text)
@@ -40,7 +43,8 @@ def write(file, contents, algorithms):
         for path, body in tags.items():
             database.execute("INSERT INTO tag (transfer, path, body) VALUES (?, ?, ?)", (transfer, path, body))
         for path, octets in sorted(contents.items(), key=lambda entry: hashlib.md5(entry[0].encode()).digest()):
-            added = database.execute("INSERT INTO held (transfer, path, size) VALUES (?, ?, ?)", (transfer, path, len(octets)))
+            added = database.execute("INSERT INTO held (transfer, path, size) VALUES (?, ?, ?)",
+                (transfer, path, len(octets)))
             rows = [(added.lastrowid, n, piece) for n, piece in enumerate(pieces_of(octets))]
             database.executemany("INSERT INTO piece (item, n, body) VALUES (?, ?, ?)", rows)
         database.commit()
@@ -57,18 +61,23 @@ def change_piece(database, item, n, body):
 # The ways in which a payload file of more than one piece is damaged.
 WAYS = {
     "the first octet": lambda d, item, parts: change_piece(d, item, 0, flipped(parts[0], 0)),
-    "the last octet": lambda d, item, parts: change_piece(d, item, len(parts) - 1, flipped(parts[-1], len(parts[-1]) - 1)),
-    "no last piece": lambda d, item, parts: d.execute("DELETE FROM piece WHERE item = ? AND n = ?", (item, len(parts) - 1)),
+    "the last octet": lambda d, item, parts: change_piece(d, item, len(parts) - 1,
+        flipped(parts[-1], len(parts[-1]) - 1)),
+    "no last piece": lambda d, item, parts: d.execute("DELETE FROM piece WHERE item = ? AND n = ?",
+        (item, len(parts) - 1)),
     "no first piece": lambda d, item, parts: d.execute("DELETE FROM piece WHERE item = ? AND n = 0", (item,)),
-    "a piece more": lambda d, item, parts: d.execute("INSERT INTO piece (item, n, body) VALUES (?, ?, x'00')", (item, len(parts))),
-    "a piece far behind": lambda d, item, parts: d.execute("INSERT INTO piece (item, n, body) VALUES (?, 99, x'')", (item,)),
+    "a piece more": lambda d, item, parts: d.execute("INSERT INTO piece (item, n, body) VALUES (?, ?, x'00')",
+        (item, len(parts))),
+    "a piece far behind": lambda d, item, parts: d.execute("INSERT INTO piece (item, n, body) VALUES (?, 99, x'')",
+        (item,)),
     "a shorter piece": lambda d, item, parts: change_piece(d, item, 0, parts[0][:-1]),
     "a longer piece": lambda d, item, parts: change_piece(d, item, len(parts) - 1, parts[-1] + b"\0"),
     "a smaller size": lambda d, item, parts: d.execute("UPDATE held SET size = size - 1 WHERE id = ?", (item,)),
     "a greater size": lambda d, item, parts: d.execute("UPDATE held SET size = size + 1 WHERE id = ?", (item,)),
     "a size past the limit": lambda d, item, parts: d.execute("UPDATE held SET size = 1 << 40 WHERE id = ?", (item,)),
     "another path": lambda d, item, parts: d.execute("UPDATE held SET path = path || 'x' WHERE id = ?", (item,)),
-    "pieces of another": lambda d, item, parts: d.execute("UPDATE piece SET body = zeroblob(length(body)) WHERE item = ?", (item,)),
+    "pieces of another": lambda d, item, parts: d.execute(
+        "UPDATE piece SET body = zeroblob(length(body)) WHERE item = ?", (item,)),
 }
 
 

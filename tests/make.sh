@@ -24,7 +24,7 @@ names_by() {
     printf '%s\n' bag-info.txt bagit.txt data data/a.txt data/k data/k/x data/k0 "manifest-$1.txt" "tagmanifest-$1.txt"
 }
 
-build_first
+take_program
 
 refuse 'no folders' 'error: the following required arguments were not provided:' bag make
 refuse 'one folder' 'error: the following required arguments were not provided:' bag make "$work/letters"
@@ -51,7 +51,8 @@ done
 expect 'an algorithm twice' 0 'made 3 files, 8 octets' bag make "$work/letters" "$work/twice" md5 md5
 expect 'an algorithm twice: it counts once' 0 "$(names_by md5)" below "$work/twice"
 # shellcheck disable=SC2046
-expect 'an algorithm 70,000 times' 0 'made 3 files, 8 octets' bag make "$work/letters" "$work/often" $(yes md5 | head -n 70000)
+expect 'an algorithm 70,000 times' 0 'made 3 files, 8 octets' \
+    bag make "$work/letters" "$work/often" $(yes md5 | head -n 70000)
 expect 'an algorithm 70,000 times: it is the same bag' 0 '' diff -r "$work/twice" "$work/often"
 expect 'slashes at the ends' 0 'made 3 files, 8 octets' bag make "$work/letters/" "$work/slash/" md5
 expect 'slashes at the ends: it is valid' 0 valid valid_bag "$work/letters" "$work/slash"
@@ -138,14 +139,18 @@ refused() {
 }
 refused 'an unknown algorithm' 64 'unknown algorithm sha224' "$work/letters" "$work/new" sha224
 refused 'the first unknown one' 64 'unknown algorithm SHA256' "$work/letters" "$work/new" md5 SHA256 sha3
-refused 'an unknown algorithm, and a name with a slash at its end' 64 'unknown algorithm ' "$work/letters" "$work/new/" ''
+refused 'an unknown algorithm with a line feed' 64 'unknown algorithm a%0Ab' "$work/letters" "$work/new" $'a\nb'
+refused 'an unknown algorithm with a carriage return' 64 'unknown algorithm a%0Db' "$work/letters" "$work/new" $'a\rb'
+refused 'an unknown algorithm with a percent sign' 64 'unknown algorithm 100%25' "$work/letters" "$work/new" '100%'
+refused 'an unknown algorithm, and a name with a slash at its end' 64 'unknown algorithm ' "$work/letters" \
+    "$work/new/" ''
 refused 'no payload' 3 'bag: files' "$work/none" "$work/new" sha256
 refused 'no payload, and an unknown algorithm' 3 'bag: files' "$work/none" "$work/new" sha224
 refused 'a file in place of the payload' 3 'bag: files' "$work/letters/a.txt" "$work/new" sha256
 refused 'an empty name' 3 'bag: files' '' "$work/new" sha256
-# Paths of 3,523 octets: data/, 14 folders with names of 250 and their slashes, and four. A line by SHA-512 has 131 octets more: 128
-# digits, two blanks and LF. 4,591 such lines are 16,775,514, which leaves 1,702 of the 16,777,216 that a manifest may have: a line
-# with a path of 1,571 octets, in the sixth folder, with a name of 60.
+# Paths of 3,523 octets: data/, 14 folders with names of 250 and their slashes, and four. A line by SHA-512 has 131
+# octets more: 128 digits, two blanks and LF. 4,591 such lines are 16,775,514, which leaves 1,702 of the 16,777,216 that
+# a manifest may have: a line with a path of 1,571 octets, in the sixth folder, with a name of 60.
 deep=$(printf 'n%.0s' {1..250})
 sixth=$work/long/$deep/$deep/$deep/$deep/$deep/$deep
 mkdir -p "$sixth/$deep/$deep/$deep/$deep/$deep/$deep/$deep/$deep"
@@ -187,17 +192,18 @@ stays 'a link that leads nowhere' "$work/dangling"
 stays 'the payload itself' "$work/letters"
 
 chmod 711 "$work"
-cp crates/bag_program/out/bag_program "$work/program"
 mkdir "$work/open" "$work/locked"
 chmod 777 "$work/open"
 chmod 555 "$work/locked"
 cp -r "$work/letters" "$work/unread"
-chmod -R a+rX "$work/program" "$work/letters" "$work/unread"
+chmod -R a+rX "$work/letters" "$work/unread"
 expect 'as nobody' 0 'made 3 files, 8 octets' nobody "$work/program" make "$work/letters" "$work/open/bag" sha256
-expect 'a folder that takes no other' 3 'bag: files' nobody "$work/program" make "$work/letters" "$work/locked/bag" sha256
+expect 'a folder that takes no other' 3 'bag: files' \
+    nobody "$work/program" make "$work/letters" "$work/locked/bag" sha256
 expect 'a folder that takes no other: nothing is made' 0 '' nothing "$work/locked/bag"
 chmod 000 "$work/unread/k"
-expect 'a directory that may not be read' 3 'bag: files' nobody "$work/program" make "$work/unread" "$work/open/new" sha256
+expect 'a directory that may not be read' 3 'bag: files' \
+    nobody "$work/program" make "$work/unread" "$work/open/new" sha256
 expect 'a directory that may not be read: nothing is made' 0 '' nothing "$work/open/new"
 chmod 755 "$work/unread/k"
 chmod 000 "$work/unread/k/x"
@@ -206,7 +212,8 @@ expect 'a file that may not be read: what was written stays' 0 'data
 data/a.txt' below "$work/open/part"
 chmod 755 "$work/unread/k/x"
 chmod 000 "$work/unread/a.txt"
-expect 'a first file that may not be read' 3 'bag: files' nobody "$work/program" make "$work/unread" "$work/open/none" sha256
+expect 'a first file that may not be read' 3 'bag: files' \
+    nobody "$work/program" make "$work/unread" "$work/open/none" sha256
 expect 'a first file that may not be read: the payload directory was made before it' 0 data below "$work/open/none"
 chmod -R a+rX "$work/long"
 chmod 000 "$sixth/x$name"
@@ -220,11 +227,12 @@ expect 'a file that takes a part: what was written stays' 0 'data
 data/A' below "$work/part"
 
 # On a disk that is full after some octets, or that has no room for another folder.
-if unshare -m sh -c "mkdir '$work/disk' && mount -t tmpfs -o size=1m,nr_inodes=4 bag '$work/disk'" 2>"$work/no mount"; then
+if own_mounts sh -c "mkdir '$work/disk' && mount -t tmpfs -o size=1m,nr_inodes=4 bag '$work/disk'" \
+    2>"$work/no mount"; then
     # on_disk SRC: makes a bag on a disk of 1 MiB and four files or folders, including its own; then lists what is on
     # it.
     on_disk() {
-        unshare -m sh -c '
+        own_mounts sh -c '
             mount -t tmpfs -o size=1m,nr_inodes="$4" bag "$1/disk"
             status=0
             "$1/program" make "$2" "$1/disk/bag" $3 || status=$?
@@ -240,7 +248,8 @@ bag/data/A' on_disk "$work/large" md5 100
     expect 'a disk with room for no file' 3 'bag: files
 bag
 bag/data' on_disk "$work/letters" md5 3
-    expect 'a disk with no room, and an unknown algorithm' 64 'unknown algorithm sha224' on_disk "$work/letters" sha224 2
+    expect 'a disk with no room, and an unknown algorithm' 64 'unknown algorithm sha224' \
+        on_disk "$work/letters" sha224 2
 else
     lacking 'a full disk (no permission to mount one)'
 fi

@@ -1,20 +1,23 @@
 #!/usr/bin/env python3
-"""new_bags.py COUNT SEED PROGRAM DRIVER..: has the driver write chosen bags and COUNT random ones, in one process, and compares its
-answers and each file with what is made here, using only section 17 of docs/FORMAT.md and hashlib. Then each bag is put in a
-folder, where coreutils check each line of its manifests that they can spell, and the program and tests/reference.py judge it. The
-same seed makes the same bags. The first answer that differs is reported with its lines.
+"""new_bags.py COUNT SEED PROGRAM DRIVER..: has the driver write chosen bags and COUNT random ones, in one process, and
+compares its answers and each file with what is made here, using only section 17 of docs/FORMAT.md and hashlib. Then
+each bag is put in a folder, where coreutils check each line of its manifests that they can spell, and the program and
+tests/reference.py judge it. The same seed makes the same bags. The first answer that differs is reported with its
+lines.
 
-The driver reads lines from standard input, and prints a line for each. Each is a word followed by its fields, each after one blank: the
-octets in lowercase hex, or `-` if there are none. Texts are UTF-8, and paths aren't spelled.
+The driver reads lines from standard input, and prints a line for each. Each is a word followed by its fields, each
+after one blank: the octets in lowercase hex, or `-` if there are none. Texts are UTF-8, and paths aren't spelled.
 
     clear                   `cleared`; there is no file, algorithm, element or hole
     file - PATH OCTETS      `added`; a file of the tree, once for each path
     by ALG                  `added`; an algorithm: `md5`, `sha1`, `sha256` or `sha512`
-    element - LABEL VALUE   `added`; an element of `bag-info.txt`, after those that were given, with LF between the lines of its value
+    element - LABEL VALUE   `added`; an element of `bag-info.txt`, after those that were given, with LF between the
+                            lines of its value
     hole - PATH URL         `added`; a hole, after those that were given
-    write                   the bag is written: `written OCTETS.FILES`, or `refused: ` and `no algorithm`, `Oxum given`, `bad hole N` (its
-                            index, from 0), `clash PATH` (spelled) or `too large`; then `data/` if there is a payload directory, and
-                            each file with its path and its octets in hex. These parts are joined by ` | `
+    write                   the bag is written: `written OCTETS.FILES`, or `refused: ` and `no algorithm`, `Oxum given`,
+                            `bad hole N` (its index, from 0), `clash PATH` (spelled) or `too large`; then `data/` if
+                            there is a payload directory, and each file with its path and its octets in hex. These parts
+                            are joined by ` | `
 """
 import collections
 import hashlib
@@ -39,17 +42,21 @@ PIECE = 131072
 # Around the edges of the blocks that are hashed.
 BLOCKS = [0, 1, 55, 56, 63, 64, 65, 119, 120, 127, 128, 129, 1000]
 # The answers and the judges, each of which must occur at least once.
-KINDS = ["written", "refused: no algorithm", "refused: Oxum given", "refused: bad hole", "refused: clash", "refused: too large",
+KINDS = ["written", "refused: no algorithm", "refused: Oxum given", "refused: bad hole", "refused: clash",
+         "refused: too large",
          "refused after the payload: too large"]
 JUDGED = ["in a folder", "with a path that no folder takes", "valid", "not complete", "valid with its holes filled",
           "digests by coreutils", "digests by hashlib alone"]
 # A scheme, a colon, and more without blanks and controls [8].
 URL = re.compile("[A-Za-z][A-Za-z0-9+.-]*:[^\\x00- \\x7f]+")
 GOOD_URLS = ["http://example.org/a", "x:y", "a+b.c-1:%41", "https://example.org/\u00e9?a=b#c", "urn:*"]
-BAD_URLS = ["", "http", ":x", "http:", "1x:y", "x y:z", "http://example.org/a b", "http:\n", "http:\x7f", "h\u00e9:x", "a_b:c"]
-PIECES = ["a", "b", "a.txt", "A", "*", "*a", " a", "\ta", "a ", "100%", "%41", "%0A", "%25", "a\nb", "\r", "a\r\nb", "\\", "a\\nb",
+BAD_URLS = ["", "http", ":x", "http:", "1x:y", "x y:z", "http://example.org/a b", "http:\n", "http:\x7f", "h\u00e9:x",
+    "a_b:c"]
+PIECES = ["a", "b", "a.txt", "A", "*", "*a", " a", "\ta", "a ", "100%", "%41", "%0A", "%25", "a\nb", "\r", "a\r\nb",
+          "\\", "a\\nb",
           "\u00e9", "e\u0301", "\ufeff", "...", "-", "~", "#", "\U0001f4c4", ".-x", "\x01", "\u2028", "'\"`$"]
-TAGS = ["bagit.txt", "bag-info.txt", "fetch.txt", "manifest-md5.txt", "tagmanifest-sha256.txt", "note", "*", " x", "datax"]
+TAGS = ["bagit.txt", "bag-info.txt", "fetch.txt", "manifest-md5.txt", "tagmanifest-sha256.txt", "note", "*", " x",
+    "datax"]
 LABELS = ["Source-Organization", "Contact-Name", "x", "Payload-Oxum-2", "a b", "\u00e9", "Bagging-Date", "%41", "*"]
 OXUM_LABELS = ["Payload-Oxum", "payload-oxum", "PAYLOAD-OXUM", "payload-OXUM"]
 LINES = ["", "a", "a value of some words", " ", "  blanks  ", "\u00e9\u2028", "a:b", "100%", "\t"]
@@ -139,7 +146,8 @@ class Order:
     def parts(self):
         """The parts of the answer to `write`."""
         first, files = self.answer()
-        return [first] if files is None else [first, "data/", *(f"{path.hex()} {files[path].hex()}" for path in sorted(files))]
+        return [first] if files is None else [first, "data/",
+            *(f"{path.hex()} {files[path].hex()}" for path in sorted(files))]
 
 
 def field(octets, nothing="-"):
@@ -154,20 +162,25 @@ def spelled(path):
 def manifest(algorithm, files):
     """[17.3] No path here begins with a mark or a blank."""
     return b"".join(
-        b"%s  %s\n" % (hashlib.new(algorithm, files[path]).hexdigest().encode(), spelled(path)) for path in sorted(files))
+        b"%s  %s\n" % (hashlib.new(algorithm, files[path]).hexdigest().encode(), spelled(path))
+        for path in sorted(files))
 
 
 def random_order(rng):
     names = rng.sample(PIECES, rng.choice([1, 3, 6, len(PIECES)]))
-    files = {"data/" + "/".join(rng.choices(names, k=rng.choice([1, 1, 1, 2, 3]))): content(rng) for _ in range(rng.randrange(9))}
+    files = {"data/" + "/".join(rng.choices(names, k=rng.choice([1, 1, 1, 2, 3]))): content(rng)
+        for _ in range(rng.randrange(9))}
     files.update((name, content(rng)) for name in rng.sample(TAGS, rng.choice([0, 0, 2])))
     payload = [path for path in files if path.startswith("data/")]
     if rng.random() < 0.8:
         payload = [path for path in payload if not any(other.startswith(path + "/") for other in payload)]
-    files = {path: files[path] for path in rng.sample(list(files), len(files)) if path in payload or not path.startswith("data/")}
-    holes = [(path, rng.choice(GOOD_URLS)) for path in rng.sample(payload, rng.randrange(len(payload) + 1) * rng.randrange(2))]
+    files = {path: files[path] for path in rng.sample(list(files), len(files))
+        if path in payload or not path.startswith("data/")}
+    holes = [(path, rng.choice(GOOD_URLS))
+        for path in rng.sample(payload, rng.randrange(len(payload) + 1) * rng.randrange(2))]
     if rng.random() < 0.1:
-        bad = [("data/none", "x:y"), ("bagit.txt", "x:y")] + [(path, url) for path in payload for url in BAD_URLS] + holes
+        bad = [("data/none", "x:y"), ("bagit.txt", "x:y")] + [(path, url) for path in payload
+            for url in BAD_URLS] + holes
         holes.insert(rng.randrange(len(holes) + 1), rng.choice(bad))
     elements = [element(rng) for _ in range(rng.choice([0, 0, 1, 2, 5]))]
     if rng.random() < 0.05:
@@ -176,13 +189,16 @@ def random_order(rng):
 
 
 def several_long_files(rng):
-    """Files with as many octets as some pieces, or nearly, among short ones, and nothing for which each is written by itself."""
+    """Files with as many octets as some pieces, or nearly, among short ones, and nothing for which each is written by
+    itself."""
     count = rng.choice([2, 3, 4, 5, 7, 8, 9])
-    lengths = [PIECE * rng.choice([1, 1, 1, 2, 3, 4]) + rng.choice([-1, 0, 0, 1, 63, 64, 65, 65536]) for _ in range(count)]
+    lengths = [PIECE * rng.choice([1, 1, 1, 2, 3, 4]) + rng.choice([-1, 0, 0, 1, 63, 64, 65, 65536])
+        for _ in range(count)]
     lengths += [rng.choice(BLOCKS) for _ in range(rng.choice([0, 0, 1, 3, 30]))]
     rng.shuffle(lengths)
     files = {f"data/{place:02}": rng.randbytes(length) for place, length in enumerate(lengths)}
-    return Order(files, rng.sample(ALGORITHMS[:3], rng.choice([1, 1, 2, 3])), [element(rng) for _ in range(rng.randrange(2))])
+    return Order(files, rng.sample(ALGORITHMS[:3], rng.choice([1, 1, 2, 3])),
+        [element(rng) for _ in range(rng.randrange(2))])
 
 
 def content(rng):
@@ -209,7 +225,8 @@ def chosen_orders():
     yield "short files among long ones, side by side", Order(mixed, ALGORITHMS[:3])
     for number in (2, 3, 4, 5, 7, 8, 32, 33):
         files = {f"data/{place:02}": bytes(range(place, 256)) * 3000 for place in range(number)}
-        files = {path: octets[:PIECE * (1 + place % 3) + place % 5 - 2] for place, (path, octets) in enumerate(files.items())}
+        files = {path: octets[:PIECE * (1 + place % 3) + place % 5 - 2]
+            for place, (path, octets) in enumerate(files.items())}
         yield f"{number} files around the edges of pieces", Order(files, ALGORITHMS[:3])
     yield "holes among them", Order(mixed, ALGORITHMS, holes=[(path, "x:y") for path in list(mixed)[::3]])
     for number in (31, 32, 33, 64, 65):
@@ -219,25 +236,34 @@ def chosen_orders():
         files = {f"data/{place:02}": bytes(at % 251 for at in range(length)) for place, length in enumerate(lengths)}
         yield f"{number} files around the edges of blocks", Order(files, ALGORITHMS)
     yield "tag files of the tree aren't taken", Order({**two, **{name: b"x" for name in TAGS}})
-    yield "line ends and percent", Order({"data/a\nb": b"1", "data/\r": b"2", "data/100%": b"3", "data/%0A": b"4", "data/%": b"5"})
-    yield "marks and blanks", Order({"data/*": b"1", "data/ x": b"2", "data/*x /\ty": b"3", "data/x ": b"4"}, ALGORITHMS)
+    yield "line ends and percent", Order(
+        {"data/a\nb": b"1", "data/\r": b"2", "data/100%": b"3", "data/%0A": b"4", "data/%": b"5"})
+    yield "marks and blanks", Order({"data/*": b"1", "data/ x": b"2", "data/*x /\ty": b"3", "data/x ": b"4"},
+        ALGORITHMS)
     yield "backslashes", Order({"data/\\": b"1", "data/a\\nb": b"2"})
     yield "a path of 4096 octets", Order({"data/" + "/".join(["n" * 99] * 40) + "/" + "m" * 91: b"x"}, ["md5"])
-    yield "order of octets", Order({f"data/{name}": name.encode() for name in ["a.b", "a/b", "a0", "A", "\u00e9", "\uffff", "\U00010000"]})
-    yield "lines of elements", Order(two, elements=[("A", "one\ntwo\nthree"), ("B", ""), ("B", "\nsecond"), ("A", " x ")])
-    yield "values that are that label", Order(two, elements=[("Contact-Name", "Payload-Oxum"), ("A", "\nPayload-Oxum: 3.2")])
+    yield "order of octets", Order(
+        {f"data/{name}": name.encode() for name in ["a.b", "a/b", "a0", "A", "\u00e9", "\uffff", "\U00010000"]})
+    yield "lines of elements", Order(two,
+        elements=[("A", "one\ntwo\nthree"), ("B", ""), ("B", "\nsecond"), ("A", " x ")])
+    yield "values that are that label", Order(two,
+        elements=[("Contact-Name", "Payload-Oxum"), ("A", "\nPayload-Oxum: 3.2")])
     worked = {"data/a.txt": b"abc", "data/e.txt": b"", "note.txt": b"x"}
     yield "a hole, an element and a tag file of the tree", Order(
         worked, ["md5", "sha512"], [("Source-Organization", "Test")], [("data/e.txt", "http://example.org/e")])
-    yield "holes, given in another order", Order({**two, "bagit.txt": b"", "data/c": b""}, holes=[("data/c", "x:y"), ("data/a", "x:y")])
+    yield "holes, given in another order", Order({**two, "bagit.txt": b"", "data/c": b""},
+        holes=[("data/c", "x:y"), ("data/a", "x:y")])
     yield "holes", Order(two, ["md5", "sha512"], holes=[("data/b", "x:y"), ("data/a", "http://example.org/a")])
     yield "every file a hole", Order({"data/a/b": b"abc"}, holes=[("data/a/b", "x:y")])
-    yield "a hole whose name is spelled", Order({"data/a\r\n%": b"abc", "data/*": b"1"}, holes=[("data/*", "x:*"), ("data/a\r\n%", "x:y")])
+    yield "a hole whose name is spelled", Order({"data/a\r\n%": b"abc", "data/*": b"1"},
+        holes=[("data/*", "x:*"), ("data/a\r\n%", "x:y")])
     yield "no algorithm", Order(two, [])
-    yield "no algorithm comes first", Order({"data/a": b"", "data/a/b": b""}, [], [("Payload-Oxum", "3.2")], [("data/c", "x:y")])
+    yield "no algorithm comes first", Order({"data/a": b"", "data/a/b": b""}, [], [("Payload-Oxum", "3.2")],
+        [("data/c", "x:y")])
     for label in OXUM_LABELS:
         yield "Oxum given as " + label, Order(two, elements=[("A", "b"), (label, "3.2")])
-    yield "Oxum comes before holes", Order({"data/a": b"", "data/a/b": b""}, elements=[("payload-OXUM", "")], holes=[("data/c", "x:y")])
+    yield "Oxum comes before holes", Order({"data/a": b"", "data/a/b": b""}, elements=[("payload-OXUM", "")],
+        holes=[("data/c", "x:y")])
     yield "a label that is almost that", Order(two, elements=[("Payload-Oxu", "1"), ("Payload-Oxum-2", "2")])
     yield "a hole that isn't there", Order(two, holes=[("data/a", "x:y"), ("data/c", "x:y")])
     yield "a hole that is a tag file", Order({**two, "note": b"x"}, holes=[("note", "x:y")])
@@ -269,19 +295,20 @@ def chosen_orders():
     yield "as long a fetch list as may be", Order({"data/a": b"123456789"}, holes=[("data/a", url)])
     yield "a fetch list with an octet too many", Order({"data/a": b"123456789"}, holes=[("data/a", url + "y")])
     yield "a fetch list that a length makes too long", Order({"data/a": b"1234567890"}, holes=[("data/a", url)])
-    yield "a manifest that is too long", Order({f"data/{number:06}" + "n" * 40: b"" for number in range(MOST_FILES)}, ["md5", "sha512"])
+    yield "a manifest that is too long", Order({f"data/{number:06}" + "n" * 40: b"" for number in range(MOST_FILES)},
+        ["md5", "sha512"])
     yield from ((name, Order(files, ["sha512"])) for name, files in long_manifests())
 
 
 def long_manifests():
-    """Payloads whose manifest by SHA-512 has 16,777,216 octets, or one more: by name. A line has 131 octets beside its path: 128
-    digits, two blanks and LF."""
+    """Payloads whose manifest by SHA-512 has 16,777,216 octets, or one more: by name. A line has 131 octets beside its
+    path: 128 digits, two blanks and LF."""
     # 3,969 lines of 4,096 + 131 octets are 16,776,963, which leaves 253: a line with a path of 122 octets.
     longest = {f"data/{number:04}" + "n" * 4087: b"" for number in range(3969)}
     yield "as long a manifest as may be", {**longest, "data/" + "n" * 117: b"x"}
     yield "a manifest with an octet too many", {**longest, "data/" + "n" * 118: b"x"}
-    # A path of 4,096 octets of which 4,087 are escaped is spelled in 12,270. 1,352 lines of 12,270 + 131 are 16,766,152, which
-    # leaves 11,064: a line with a spelling of 10,933, which are 7 and three for each of 3,642.
+    # A path of 4,096 octets of which 4,087 are escaped is spelled in 12,270. 1,352 lines of 12,270 + 131 are
+    # 16,766,152, which leaves 11,064: a line with a spelling of 10,933, which are 7 and three for each of 3,642.
     escaped = {f"data/{number:04}" + ("%\n\r" * 1363)[:4087]: b"" for number in range(1352)}
     yield "as long a manifest of escapes as may be", {**escaped, "data/" + "%" * 3642 + "nn": b"x"}
     yield "a manifest of escapes with an octet too many", {**escaped, "data/" + "%" * 3642 + "nnn": b"x"}

@@ -5,13 +5,13 @@ set -u
 cd "$(dirname -- "$0")/.." || exit 1
 . tests/common.bash
 
-build_first
+take_program
 build_driver
 
 if [ "$(command -v md5sum sha1sum sha256sum sha512sum | wc -l)" -eq 4 ]; then
     # It prints what it tried, or the first bag that is written or judged differently.
     expect 'new bags' 0 '' env TMPDIR="$work" sh -c 'python3 -B tests/new_bags.py 300 1 "$1" "$2" calls map >"$3"' \
-        sh crates/bag_program/out/bag_program "$driver" "$work/tried"
+        sh "$program" "$driver" "$work/tried"
     cat "$work/tried"
 else
     lacking 'bags that are written (the digest programs of coreutils are not installed)'

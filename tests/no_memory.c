@@ -1,11 +1,11 @@
-/* Makes one allocation of memory fail: the one with the number REFUSE, counted from 1. The file named by REFUSED is made then.
- * If the program ends by itself, the number of allocations is written to the file named by ASKED. To be loaded before a
- * program's own library (LD_PRELOAD).
+/* Makes one allocation of memory fail: the one with the number REFUSE, counted from 1. The file named by REFUSED is
+ * made then. If the program ends by itself, the number of allocations is written to the file named by ASKED. To be
+ * loaded before a program's own library (LD_PRELOAD).
  *
- * With EACH, a number, none fails in the program. From that allocation on, up to the one with the number LAST, a copy of the
- * process goes on for each, in which that one fails, while the program waits. What the copy prints is in the file TRIED.NUMBER,
- * after what was printed before, for which standard output has to be a file that can be read. A line on standard error names
- * each copy that doesn't end with status 0. */
+ * With EACH, a number, none fails in the program. From that allocation on, up to the one with the number LAST, a copy
+ * of the process goes on for each, in which that one fails, while the program waits. What the copy prints is in the
+ * file TRIED.NUMBER, after what was printed before, for which standard output has to be a file that can be read. A line
+ * on standard error names each copy that doesn't end with status 0. */
 #include <errno.h>
 #include <fcntl.h>
 #include <stdio.h>

@@ -5,8 +5,7 @@
 set -u
 cd "$(dirname -- "$0")/.." || exit 1
 . tests/common.bash
-build_first
-program=crates/bag_program/out/bag_program
+take_program
 # What was tried: runs of a test or of the program in which no allocation failed, and runs in which one did.
 runs=0
 refusals=0
@@ -14,10 +13,15 @@ refusals=0
 # all.
 most=1000
 
-# refusing NUMBER COMMAND..: runs the command with this allocation failing (none for 0).
+# refusing NUMBER COMMAND..: runs the command with this allocation failing (none for 0). That a ledger needs memory to be
+# opened may be said on standard error, and is left out.
 refusing() {
+    local status=0
     rm -f -- "$work/asked" "$work/refused"
-    LD_PRELOAD="$work/no_memory.so" REFUSE=$1 ASKED="$work/asked" REFUSED="$work/refused" "${@:2}"
+    LD_PRELOAD="$work/no_memory.so" REFUSE=$1 ASKED="$work/asked" REFUSED="$work/refused" "${@:2}" 2>"$work/errors" ||
+        status=$?
+    grep -avxE 'bag: .*: it has [0-9]+ octets, and opening it takes as much memory and a little more' "$work/errors" >&2
+    return "$status"
 }
 
 # count_asked: sets `asked` to the number of allocations of the last command. Fails if the counting library reported
@@ -37,8 +41,9 @@ count_refusal() {
     fi
 }
 
-# each_growth WORD..: runs the program with these words once with no failing allocation, and then once for each allocation, which fails.
-# What is on standard error belongs to the answer: there it is said what is wrong with words that are no command.
+# each_growth WORD..: runs the program with these words once with no failing allocation, and then once for each
+# allocation, which fails. What is on standard error belongs to the answer: there it is said what is wrong with words
+# that are no command.
 each_growth() {
     local answer status=0 printed number
     answer=$(refusing 0 "$program" "$@" 2>&1) || status=$?
@@ -72,7 +77,8 @@ each_growth_of_make() {
         case "$status $printed" in
         "0 $answer") [ -d "$work/made/data" ] || echo "allocation $number of $asked: nothing is made" ;;
         '3 bag: memory')
-            [ ! -e "$work/made" ] || [ -n "$(ls "$work/made")" ] || echo "allocation $number of $asked: an empty folder is left"
+            [ ! -e "$work/made" ] || [ -n "$(ls "$work/made")" ] \
+                || echo "allocation $number of $asked: an empty folder is left"
             ;;
         *) echo "allocation $number of $asked: status $status: $printed" ;;
         esac
@@ -81,8 +87,9 @@ each_growth_of_make() {
     refusing 1 "$program" make "$1" "$work/made" "${@:2}"
 }
 
-# each_growth_of_fetch LEDGER PATH FOLDER: fetches the file with this path, once with no failing allocation, and then with each that
-# comes after the ledger was opened. It is taken, or not for want of memory, which is not told as a failure of the folder.
+# each_growth_of_fetch LEDGER PATH FOLDER: fetches the file with this path, once with no failing allocation, and then
+# with each that comes after the ledger was opened. It is taken, or not for want of memory, which is not told as a
+# failure of the folder.
 each_growth_of_fetch() {
     local printed number first status=0
     cp "$1" "$work/fetching"
@@ -106,9 +113,9 @@ each_growth_of_fetch() {
     done
 }
 
-# each_growth_of_failed START TOLD WORD..: runs a command that fails on a folder, as the user nobody and after this start of a shell, once
-# for each allocation, which fails. Where the answer is that files can't be used, that is told of this one, even if no memory is left by
-# then.
+# each_growth_of_failed START TOLD WORD..: runs a command that fails on a folder, as the user nobody and after this
+# start of a shell, once for each allocation, which fails. Where the answer is that files can't be used, that is told of
+# this one, even if no memory is left by then.
 each_growth_of_failed() {
     local asked number printed status words
     asked=0
@@ -122,7 +129,8 @@ each_growth_of_failed() {
         status=0
         words=(LD_PRELOAD="$work/no_memory.so" REFUSE="$number" ASKED="$work/open/asked" REFUSED="$work/open/refused")
         rm -rf "$work/open/made"
-        printed=$(nobody sh -c "$1"'; exec env "$@"' sh "${words[@]}" "$work/open/program" "${@:3}" 2>"$work/told") || status=$?
+        printed=$(nobody sh -c "$1"'; exec env "$@"' sh "${words[@]}" "$work/open/program" "${@:3}" 2>"$work/told") \
+            || status=$?
         [ "$number" -gt 0 ] || read -r asked <"$work/open/asked"
         case "$status $printed: $(<"$work/told")" in
         '3 bag: memory: ') ;;
@@ -229,8 +237,8 @@ more_refusals() {
 }
 
 if cc -shared -fPIC -O1 -o "$work/no_memory.so" tests/no_memory.c 2>"$work/no cc"; then
-    bags='whole-format first-bag two-manifests several-faults oxum-wrong oxum-repeated unknown-algorithm listed-twice faulty-lines
-        no-declaration no-manifest manifest-not-listed fetch-not-listed fetch-length'
+    bags='whole-format first-bag two-manifests several-faults oxum-wrong oxum-repeated unknown-algorithm listed-twice
+        faulty-lines no-declaration no-manifest manifest-not-listed fetch-not-listed fetch-length'
     for bag in $bags; do
         expect "no memory for a check of $bag" 3 'bag: memory' each_growth check "examples/$bag"
     done
@@ -262,7 +270,8 @@ if cc -shared -fPIC -O1 -o "$work/no_memory.so" tests/no_memory.c 2>"$work/no cc
     expect 'no memory for a folder that is not made' 0 told \
         each_growth_of_failed 'umask 777' "$work/open/made/data: $denied" make "$work/ten" "$work/open/made" md5
     expect 'no memory for a tag file that takes a part' 0 told \
-        each_growth_of_failed 'trap "" XFSZ; ulimit -f 1' "$work/open/made/manifest-sha512.txt: File too large (os error 27)" \
+        each_growth_of_failed 'trap "" XFSZ; ulimit -f 1' \
+        "$work/open/made/manifest-sha512.txt: File too large (os error 27)" \
         make "$work/ten" "$work/open/made" sha512
     head -c 20000 /dev/zero >"$work/ten/9"
     expect 'no memory for a file that takes a part' 0 told \
@@ -289,7 +298,8 @@ if cc -shared -fPIC -O1 -o "$work/no_memory.so" tests/no_memory.c 2>"$work/no cc
         count_asked && [ $((asked - report)) -ge 20 ]
     }
     expect 'an audit reads what is held again, and a report does not' 0 $'valid\nvalid' audit_asks_more
-    # asks_once_for_a_piece: an audit asks for memory as often for a piece of 65,536 octets as for a file of one line, or nearly.
+    # asks_once_for_a_piece: an audit asks for memory as often for a piece of 65,536 octets as for a file of one line,
+    # or nearly.
     asks_once_for_a_piece() {
         local name more=() number
         for name in t1 t2; do
@@ -301,7 +311,8 @@ if cc -shared -fPIC -O1 -o "$work/no_memory.so" tests/no_memory.c 2>"$work/no cc
         [ $((more[0])) -le $((2 * 20 * more[1])) ] || echo "${more[*]}"
     }
     expect 'a file of one line: begin' 0 new "$program" begin "$work/ledger" t2 examples/first-bag
-    expect 'a file of one line: intake' 0 $'taken data/a.txt\ntaken data/e.txt' "$program" intake "$work/ledger" t2 examples/first-bag
+    expect 'a file of one line: intake' 0 $'taken data/a.txt\ntaken data/e.txt' \
+        "$program" intake "$work/ledger" t2 examples/first-bag
     expect 'a piece of a file is asked for once' 0 '' asks_once_for_a_piece
     # What was read, and what is held, is not gone through once more for each file.
     for number in 1 8 64 100 200 400; do files_of "$number"; done
@@ -309,7 +320,8 @@ if cc -shared -fPIC -O1 -o "$work/no_memory.so" tests/no_memory.c 2>"$work/no cc
         expect "allocations for more files: $command" 0 '' asks_in_line "$command"
     done
     for number in 100 200 400; do
-        expect "allocations for $number files: another transfer" 0 new "$program" begin "$work/of $number.ledger" t2 "$work/of $number"
+        expect "allocations for $number files: another transfer" 0 new \
+            "$program" begin "$work/of $number.ledger" t2 "$work/of $number"
     done
     expect 'allocations for more files: fetch' 0 '' asks_in_line fetch
     # Of short files some are gathered until their digests are taken, and each once.
@@ -328,7 +340,8 @@ if cc -shared -fPIC -O1 -o "$work/no_memory.so" tests/no_memory.c 2>"$work/no cc
     expect 'allocations for short files that are gathered: report' 0 '' gathers_once
     allocations=60
     [ "${1-}" != --all ] || allocations=0
-    expect 'no memory for the commands' 0 '' env TMPDIR="$work" sh -c 'python3 -B tests/failing_commands.py "$@" >"$0"' \
+    expect 'no memory for the commands' 0 '' \
+        env TMPDIR="$work" sh -c 'python3 -B tests/failing_commands.py "$@" >"$0"' \
         "$work/tried" "$program" "$allocations" allocations "$work/no_memory.so"
     cat "$work/tried"
     # Left out are tests that say whether an answer was right, and not what it was.

@@ -29,6 +29,15 @@ Commands:
 Options:
   -h, --help     Print help
   -V, --version  Print version
+
+Exit status:
+  0   the bag is valid, or the command is done
+  1   the bag is not valid, or something was refused
+  2   the bag can't be judged here
+  3   a folder, a file, the ledger, memory or the output couldn't be used, or a limit was exceeded
+  64  an unknown command line
+
+The manual page has every line: man bag, or docs/bag.1
 HELP
 )
 help_of_check='Judges the bag in a folder
@@ -41,7 +50,7 @@ Arguments:
 Options:
   -h, --help  Print help'
 
-build_first
+take_program
 
 expect 'no words' 64 'bag: check, make, begin, intake, report, audit, fetch, export, list' bag
 refuse 'a word that is no command' "error: unrecognized subcommand 'verify'" bag verify examples/first-bag
@@ -53,6 +62,16 @@ refuse 'the version of a command' "error: unexpected argument '--version' found"
 refuse 'a command after the mark' "error: " bag -- check examples/first-bag
 refuse 'the mark alone' "error: " bag --
 refuse 'the beginning of a command' "error: unrecognized subcommand 'chec'" bag chec examples/first-bag
+for words in 'validate check' 'verify check' 'create make'; do
+    read -r word command <<<"$words"
+    explain "$word, as other tools call it" 64 "error: unrecognized subcommand '$word'
+
+  tip: here it is '$command'
+
+Usage: bag <COMMAND>
+
+For more information, try '--help'." bag "$word" examples/first-bag
+done
 refuse 'the beginning of a command, and help' "error: unrecognized subcommand 'chec'" bag chec --help
 refuse 'help after a wrong word' "error: unexpected argument 'two' found" bag check examples/first-bag two --help
 refuse 'a command without its folder' 'error: the following required arguments were not provided:' bag check
@@ -66,8 +85,8 @@ unheard() {
 expect 'an argument that is not UTF-8, and a full standard error' 64 '' unheard bag check $'\377'
 expect 'a word that is no command, and a full standard error' 64 '' unheard bag verify
 expect 'help' 0 "$help" bag --help
-expect 'the version' 0 'bag 1.5.6' bag --version
-expect 'the version, by its letter' 0 'bag 1.5.6' bag -V check examples/first-bag
+expect 'the version' 0 'bag 1.6.0' bag --version
+expect 'the version, by its letter' 0 'bag 1.6.0' bag -V check examples/first-bag
 expect 'help, whatever else is there' 0 "$help" bag --help examples/first-bag
 expect 'help by its command' 0 "$help" bag help
 expect 'help of a command' 0 "$help_of_check" bag check --help
@@ -184,9 +203,8 @@ name=$(printf 'k%.0s' {1..200})
 expect 'a path of more than 4,096 octets' 3 'bag: files' bag check "$work/deep"
 
 chmod 711 "$work"
-cp crates/bag_program/out/bag_program "$work/program"
 new locked
-chmod -R a+rX "$work/program" "$work/locked"
+chmod -R a+rX "$work/locked"
 expect 'the same, unlocked' 0 valid nobody "$work/program" check "$work/locked"
 chmod 000 "$work/locked/data/a.txt"
 expect 'a file that may not be read' 3 'bag: files' nobody "$work/program" check "$work/locked"
@@ -223,7 +241,8 @@ unexplained() {
     unheard "$@" || status=$?
     echo "status $status"
 }
-expect 'a full standard error, and a folder that is not there' 0 $'bag: files\nstatus 3' unexplained bag check "$work/none"
+expect 'a full standard error, and a folder that is not there' 0 $'bag: files\nstatus 3' \
+    unexplained bag check "$work/none"
 explain 'a full output, and a folder that is not there' 3 "bag: $work/none: No such file or directory (os error 2)" \
     full bag check "$work/none"
 finish

@@ -1,8 +1,9 @@
 #!/usr/bin/env python3
 """progress.py PROGRAM: the line of progress on a terminal. At the end it prints how many commands were run.
 
-Each command is run with standard error on a terminal, and once more without one. A terminal of one's own shows what is written there:
-how each line of progress reads, and what is left when the command has ended. Sizes and numbers are those of the files that were made.
+Each command is run with standard error on a terminal, and once more without one. A terminal of one's own shows what is
+written there: how each line of progress reads, and what is left when the command has ended. Sizes and numbers are those
+of the files that were made.
 """
 import hashlib
 import itertools
@@ -24,7 +25,8 @@ DECLARATION = b"BagIt-Version: 1.0\nTag-File-Character-Encoding: UTF-8\n"
 MEBIBYTE = 1 << 20
 UNITS = {"KiB": 1 << 10, "MiB": 1 << 20, "GiB": 1 << 30}
 LINE = re.compile(
-    r"bag: ([a-z]+(?: in| the ledger,)?) ([0-9,]+)(?: of ([0-9,]+))? files, ([0-9.]+) (KiB|MiB|GiB)(?: of ([0-9.]+ [KMG]iB))?")
+    r"bag: ([a-z]+(?: in| the ledger,)?) ([0-9,]+)(?: of ([0-9,]+))? files,"
+    r" ([0-9.]+) (KiB|MiB|GiB)(?: of ([0-9.]+ [KMG]iB))?")
 # A line is shown after so many octets, and a file counts as so many besides its own.
 PER_LINE = 64 * MEBIBYTE
 PER_FILE = 64 << 10
@@ -39,7 +41,8 @@ class Ended:
         self.status, self.printed, self.said = status, printed, said
 
     def lines(self):
-        """The lines of progress in what was said, in order. Each begins with a CR and ends by erasing the rest of its line."""
+        """The lines of progress in what was said, in order. Each begins with a CR and ends by erasing the rest of its
+        line."""
         return [text for text in re.findall(r"\r([^\r\n]+)\x1b\[K", self.said.decode())]
 
     def screen(self):
@@ -72,12 +75,12 @@ def screen(text):
 
 
 class Work:
-    """Work of which lines tell: how it is called, how many files are expected, if that is told; the octets read before the first file that
-    counts, and the lengths of the files that count, in order; how many octets are expected, if that is told; and how many files are read
-    side by side at most."""
+    """Work of which lines tell: how it is called, how many files are expected, if that is told; the octets read before
+    the first file that counts, and the lengths of the files that count, in order; and how many octets are expected, if
+    that is told."""
 
-    def __init__(self, told, files, lengths, before=0, octets=None, beside=1):
-        self.told, self.files, self.lengths, self.before, self.octets, self.beside = told, files, lengths, before, octets, beside
+    def __init__(self, told, files, lengths, before=0, octets=None):
+        self.told, self.files, self.lengths, self.before, self.octets = told, files, lengths, before, octets
 
 
 class Place:
@@ -93,15 +96,15 @@ class Place:
         return Ended(done.returncode, done.stdout, done.stderr)
 
     def watch(self, *words, output=None, stop=False, limit=None):
-        """The same with standard error on a terminal, and standard output there too if `output` is `terminal`. If `stop`, the terminal
-        goes away once something is said. Files can't be longer than `limit`."""
+        """The same with standard error on a terminal, and standard output there too if `output` is `terminal`. If
+        `stop`, the terminal goes away once something is said. Files can't be longer than `limit`."""
         self.count += 1
         ours, theirs = pty.openpty()
         tty.setraw(theirs)
         with open(self.work / "printed", "w+b") as printed:
             child = subprocess.Popen(
-                [self.program, *words], stdin=subprocess.DEVNULL, stdout=theirs if output == "terminal" else printed, stderr=theirs,
-                preexec_fn=lambda: limited(limit))
+                [self.program, *words], stdin=subprocess.DEVNULL, stdout=theirs if output == "terminal" else printed,
+                stderr=theirs, preexec_fn=lambda: limited(limit))
             os.close(theirs)
             said = b""
             while piece := read(ours):
@@ -134,7 +137,8 @@ class Place:
         self.count += 1
         ours, theirs = pty.openpty()
         tty.setraw(theirs)
-        child = subprocess.Popen([self.program, *words], stdin=subprocess.DEVNULL, stdout=subprocess.DEVNULL, stderr=theirs)
+        child = subprocess.Popen([self.program, *words], stdin=subprocess.DEVNULL, stdout=subprocess.DEVNULL,
+            stderr=theirs)
         os.close(theirs)
         said = b""
         while b"\x1b[K" not in said and (piece := read(ours)):
@@ -184,8 +188,8 @@ def size(octets):
 
 
 def follow(lines, work):
-    """Checks the lines of this work. A line can be written at the start of a file or while it is read, and once more before all files
-    if the octets that are expected are enough for one."""
+    """Checks the lines of this work. A line can be written at the start of a file or while it is read, and once more
+    before all files if the octets that are expected are enough for one."""
     ends = [work.before]
     for length in work.lengths:
         ends.append(ends[-1] + length)
@@ -197,7 +201,7 @@ def follow(lines, work):
         assert total == (None if work.octets is None else size(work.octets)), line
         assert (unit == "KiB") == ("." not in shown) and float(shown) < 1024, line
         octets, rounded = float(shown) * UNITS[unit], UNITS[unit] / (1 if unit == "KiB" else 10)
-        assert ends[max(files - work.beside, 0)] - rounded < octets <= ends[files], (line, ends[files - 1], ends[files])
+        assert ends[max(files - 1, 0)] - rounded < octets <= ends[files], (line, ends[files - 1], ends[files])
         weight = files * PER_FILE + octets
         assert weight >= last and files <= len(work.lengths), line
         last = weight
@@ -214,8 +218,8 @@ def follow(lines, work):
 
 
 def both(place, works, *words, again=lambda: None, status=0):
-    """Runs the command without a terminal and with one. Both answer the same, lines tell of these works in turn, and the line is gone at
-    the end."""
+    """Runs the command without a terminal and with one. Both answer the same, lines tell of these works in turn, and
+    the line is gone at the end."""
     quiet = place.run(*words)
     again()
     watched = place.watch(*words)
@@ -226,10 +230,12 @@ def both(place, works, *words, again=lambda: None, status=0):
     assert quiet.said == b"" and quiet.status == status, (words, quiet.status, quiet.said)
     assert (watched.status, watched.printed) == (status, quiet.printed), (words, watched.status)
     assert (stopped.status, stopped.printed) == (status, quiet.printed), (words, stopped.status)
-    assert together.status == status and together.screen() == quiet.printed.decode().splitlines(), (words, together.screen())
+    assert together.status == status and together.screen() == quiet.printed.decode().splitlines(), (
+        words, together.screen())
     assert watched.screen() == [], watched.screen()
     assert watched.erases_lines() and together.erases_lines(), (words, watched.said, together.said)
-    told = [(name, list(lines)) for name, lines in itertools.groupby(watched.lines(), lambda line: LINE.fullmatch(line).group(1))]
+    told = [(name, list(lines)) for name, lines in itertools.groupby(watched.lines(),
+        lambda line: LINE.fullmatch(line).group(1))]
     assert [name for name, _ in told] == [work.told for work in works], (words, watched.lines())
     for (_, lines), work in zip(told, works):
         follow(lines, work)
@@ -258,7 +264,8 @@ def many_files(place):
     listed.mkdir()
     bag(listed, {})
     shutil.copy(base / "manifest-sha256.txt", listed)
-    (listed / "fetch.txt").write_text("".join(f"http://example.org/{path} {LENGTH} {path}\n" for path in reversed(paths)))
+    (listed / "fetch.txt").write_text(
+        "".join(f"http://example.org/{path} {LENGTH} {path}\n" for path in reversed(paths)))
     fetch = lambda: anew(listed)
     fetch()
     both(place, [Work("fetching", None, lengths)], "fetch", str(ledger), "t", str(base), again=fetch)
@@ -291,7 +298,8 @@ def many_files(place):
     both(place, [reading], "report", str(ledger), "t")
     both(place, [reading], "begin", str(ledger), "t", str(base))
     both(place, [reading, Work("auditing", None, lengths, octets=sum(lengths))], "audit", str(ledger), "t")
-    both(place, [reading, Work("exporting", None, [*tag_files, *lengths])], "export", str(ledger), "t", str(made), again=remove)
+    both(place, [reading, Work("exporting", None, [*tag_files, *lengths])], "export", str(ledger), "t", str(made),
+        again=remove)
     remove()
     # A ledger of format 1, which each command moves.
     files = {path: (base / path).read_bytes() for path in paths}
@@ -300,18 +308,21 @@ def many_files(place):
         ledger.unlink()
         write_first(ledger, {"t": files})
     older()
-    both(place, [Work("reading the ledger,", None, lengths, octets=ledger.stat().st_size)], "list", str(ledger), again=older)
+    both(place, [Work("reading the ledger,", None, lengths, octets=ledger.stat().st_size)], "list", str(ledger),
+        again=older)
     # The same with files that are long enough to be seen in what is told.
     files = {f"data/{number:03}": bytes(MEBIBYTE) for number in range(150)}
     older()
-    both(place, [Work("reading the ledger,", None, [MEBIBYTE] * 150, octets=ledger.stat().st_size)], "list", str(ledger), again=older)
-    # Once they are moved, they are in pieces, and up to four are read side by side.
+    both(place, [Work("reading the ledger,", None, [MEBIBYTE] * 150, octets=ledger.stat().st_size)], "list",
+        str(ledger), again=older)
+    # Once they are moved, they are in pieces.
     assert place.run("list", str(ledger)).printed == b"t\n"
-    both(place, [Work("reading the ledger,", None, [MEBIBYTE] * 150, octets=ledger.stat().st_size, beside=4)], "list", str(ledger))
+    both(place, [Work("reading the ledger,", None, [MEBIBYTE] * 150, octets=ledger.stat().st_size)], "list", str(ledger))
 
 
 def millions(place):
-    """Numbers from a million on have all their digits: so many payload files are those of one folder that is given many times."""
+    """Numbers from a million on have all their digits: so many payload files are those of one folder that is given many
+    times."""
     base, ledger = place.work / "many", place.work / "ledger of many"
     assert place.run("begin", str(ledger), "t", str(base)).printed == b"new\n"
     for files in (999_000, 1_005_000, 1_050_000):
@@ -334,12 +345,14 @@ def one_file(place):
 
 
 def totals(place):
-    """How many octets of a ledger are expected: those of the file and of its log, in the largest unit that they fill. The file is no
-    database, so no more than that is shown of it."""
+    """How many octets of a ledger are expected: those of the file and of its log, in the largest unit that they fill.
+    The file is no database, so no more than that is shown of it."""
     ledger, log = place.work / "text", place.work / "text-wal"
-    for octets, of_log, told in [((1 << 30) - 1, 0, ["1023.9 MiB"]), (1 << 30, 0, ["1.0 GiB"]), ((1 << 40) - 1, 0, ["1023.9 GiB"]),
-                                 (1 << 40, 0, ["1.0 TiB"]), (3 << 39, 0, ["1.5 TiB"]), (3 << 29, 0, ["1.5 GiB"]), (64 * MEBIBYTE, 0, ["64.0 MiB"]),
-                                 (64 * MEBIBYTE - 1, 0, []), (100 * MEBIBYTE, 924 * MEBIBYTE, ["100.0 MiB", "1.0 GiB"]),
+    for octets, of_log, told in [((1 << 30) - 1, 0, ["1023.9 MiB"]), (1 << 30, 0, ["1.0 GiB"]),
+                                 ((1 << 40) - 1, 0, ["1023.9 GiB"]),
+                                 (1 << 40, 0, ["1.0 TiB"]), (3 << 39, 0, ["1.5 TiB"]), (3 << 29, 0, ["1.5 GiB"]),
+                                 (64 * MEBIBYTE, 0, ["64.0 MiB"]), (64 * MEBIBYTE - 1, 0, []),
+                                 (100 * MEBIBYTE, 924 * MEBIBYTE, ["100.0 MiB", "1.0 GiB"]),
                                  (40 * MEBIBYTE, 30 * MEBIBYTE, ["70.0 MiB"])]:
         ledger.write_bytes(b"text\n" * 1_000)
         os.truncate(ledger, octets)
@@ -347,7 +360,8 @@ def totals(place):
             log.touch()
             os.truncate(log, of_log)
         ended = place.watch("list", str(ledger))
-        assert ended.lines() == [f"bag: reading the ledger, 0 files, 0 KiB of {total}" for total in told], (octets, ended.said)
+        assert ended.lines() == [f"bag: reading the ledger, 0 files, 0 KiB of {total}" for total in told], (
+            octets, ended.said)
         assert (ended.status, ended.printed) == (3, b"bag: not a ledger\n"), ended.printed
         ledger.unlink()
     log.unlink()
@@ -357,7 +371,8 @@ def short_work(place):
     """Nothing is shown of work on few small files."""
     base, made, ledger = place.work / "few", place.work / "made of few", place.work / "small ledger"
     bag(base, {"data/f": b"f\n"})
-    for words in (["check", base], ["make", base / "data", made, "md5"], ["begin", ledger, "t", base], ["intake", ledger, "t", base],
+    for words in (["check", base], ["make", base / "data", made, "md5"], ["begin", ledger, "t", base],
+                  ["intake", ledger, "t", base],
                   ["report", ledger, "t"], ["audit", ledger, "t"], ["fetch", ledger, "t", base], ["list", ledger],
                   ["export", ledger, "t", place.work / "exported"]):
         ended = place.watch(*map(str, words))
@@ -372,7 +387,8 @@ def short_work(place):
 
 
 def failures(place):
-    """A command that fails after a line of progress, a missing folder, and a wrong word: what is said of it stands alone."""
+    """A command that fails after a line of progress, a missing folder, and a wrong word: what is said of it stands
+    alone."""
     base, made = place.work / "many", place.work / "made in part"
     (base / "data/last").write_bytes(bytes(2 * MEBIBYTE))
     too_large = f"bag: {made}/data/last: File too large (os error 27)"
@@ -384,21 +400,24 @@ def failures(place):
     empty = place.work / "empty"
     empty.mkdir()
     ended = place.watch("intake", str(place.work / "large ledger"), "t", str(empty), output="terminal")
-    assert ended.lines() and ended.screen() == [f"bag: {empty}: it has no payload file below data/"] and ended.status == 0, ended.said
+    told = [f"bag: {empty}: it has no payload file below data/"]
+    assert ended.lines() and ended.screen() == told and ended.status == 0, ended.said
     # Nothing is printed, and nothing said.
     for output in (None, "terminal"):
         ended = place.watch("fetch", str(place.work / "large ledger"), "t", str(empty), output=output)
         assert ended.lines() and ended.screen() == [] and (ended.status, ended.printed) == (0, b""), ended.said
     missing = place.work / "missing"
     ended = place.watch("check", str(missing))
-    assert ended.said.decode() == f"bag: {missing}: No such file or directory (os error 2)\n" and ended.status == 3, ended.said
+    told = f"bag: {missing}: No such file or directory (os error 2)\n"
+    assert ended.said.decode() == told and ended.status == 3, ended.said
     assert place.watch("chek").said == place.run("chek").said
 
 
 def closed(place):
     """Standard error is closed: the first file that is opened takes its place, and nothing else is written to that."""
     base, made = place.work / "few", place.work / "made of many"
-    ended = subprocess.run(["sh", "-c", 'exec "$@" 2>&-', "sh", place.program, "make", place.work / "many/data", made, "md5"], check=True,
+    ended = subprocess.run(["sh", "-c", 'exec "$@" 2>&-', "sh", place.program, "make", place.work / "many/data", made,
+        "md5"], check=True,
                            capture_output=True)
     assert ended.stderr == b"" and place.run("check", str(made)).printed == b"valid\n", ended
     place.count += 1

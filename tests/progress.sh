@@ -4,6 +4,6 @@ set -u
 cd "$(dirname -- "$0")/.." || exit 1
 . tests/common.bash
 
-build_first
-expect 'progress' 0 '124 commands' env TMPDIR="$work" python3 -B tests/progress.py crates/bag_program/out/bag_program
+take_program
+expect 'progress' 0 '124 commands' env TMPDIR="$work" python3 -B tests/progress.py "$program"
 finish

@@ -1,7 +1,7 @@
 #!/usr/bin/env python3
 """random_bags.py PROGRAM SEED NUMBER: makes NUMBER small bags, whole and damaged, of versions 1.0 and 0.97 in turn, and
-compares the output and the status of `PROGRAM check` for each with tests/reference.py. The same seed makes the same bags. A bag
-that is judged differently is kept and its name is printed.
+compares the output and the status of `PROGRAM check` for each with tests/reference.py. The same seed makes the same
+bags. A bag that is judged differently is kept and its name is printed.
 """
 import hashlib
 import os
@@ -18,18 +18,19 @@ from explaining import is_explained
 VERSIONS = [b"1.0", b"0.97"]
 ALGORITHMS = ["md5", "sha1", "sha256", "sha512"]
 NAMES = [name.encode() for name in [
-    "a.txt", "b", "A.TXT", "two words", "line\nend", "line end", "line!", "cr\rend", "100%.txt", "%41", "%0A", "tab\tname", "%25",
-    "%250d", "%", "%%\n", "k/%0d", "%0\n", "%2", "trail ", " lead", "*star", "k/x", "k.txt", "k0", "deep/er/still", "\u00e9",
-    "e\u0301", "\ufeffmark", "\u00a0gap", "back\\slash", ".hidden", "...", "data", "bagit.txt", "tagmanifest-md5.txt"]]
+    "a.txt", "b", "A.TXT", "two words", "line\nend", "line end", "line!", "cr\rend", "100%.txt", "%41", "%0A",
+    "tab\tname", "%25", "%250d", "%", "%%\n", "k/%0d", "%0\n", "%2", "trail ", " lead", "*star", "k/x", "k.txt", "k0",
+    "deep/er/still", "\u00e9", "e\u0301", "\ufeffmark", "\u00a0gap", "back\\slash", ".hidden", "...", "data",
+    "bagit.txt", "tagmanifest-md5.txt"]]
 TAG_NAMES = [name.encode() for name in [
-    "note", "notes/read me", "*star", " lead", "line\nend", "50%", "50%25", "%0a", "\u00e9", "datax", "Manifest-md5.txt",
-    "manifest-.txt", "manifest-a-b.txt", "tags/manifest-md5.txt", "manifest-md5.txt~", "BagIt.txt"]]
+    "note", "notes/read me", "*star", " lead", "line\nend", "50%", "50%25", "%0a", "\u00e9", "datax",
+    "Manifest-md5.txt", "manifest-.txt", "manifest-a-b.txt", "tags/manifest-md5.txt", "manifest-md5.txt~", "BagIt.txt"]]
 OTHER_ALGORITHMS = [b"sha224", b"MD5", b"sha3_256", b"zz", b"_", b"blake2b"]
 # Some are good in version 0.97.
 BAD_SPELLINGS = [
-    b"", b"data", b"data/", b"/data/a", b"data//a", b"data/./a", b"data/../a", b"..", b".", b"data/a/", b"data/%41", b"data/%2",
-    b"data/%", b"data/%0", b"data/a%0g", b"data/%%0a", b"data/\0", b"././data/a", b"data/" + b"n" * 4092, b"*", b"./",
-    b"**data/a", b"%"]
+    b"", b"data", b"data/", b"/data/a", b"data//a", b"data/./a", b"data/../a", b"..", b".", b"data/a/", b"data/%41",
+    b"data/%2", b"data/%", b"data/%0", b"data/a%0g", b"data/%%0a", b"data/\0", b"././data/a", b"data/" + b"n" * 4092,
+    b"*", b"./", b"**data/a", b"%"]
 OTHER_PLACES = [
     b"bagit.txt", b"k", b"data/a.txt", b"tagmanifest-md5.txt", b"tagmanifest-other_1.txt", b"tagmanifest-a-b.txt",
     b"manifest-sha256.txt", b"datax/a", b"Data/a", b"data%25", b"data%0A", b"tags/tagmanifest-md5.txt"]
@@ -41,16 +42,17 @@ BAD_OXUMS = [
     b"", b"3", b".", b"3.", b".2", b"3.2.1", b"-3.2", b"3 .2", b"3,2", b"x.y", b"18446744073709551616.1",
     b"1.99999999999999999999", b"\xd9\xa1.1", b"3.2\n 1", b"0x1.1", b"3.2\xc2\xa0", b"3.2:", b"3.2 : x"]
 ELEMENTS = [
-    b"Contact-Name: Ada", b"Contact-Name:\tBen", b"Empty:", b"Empty: ", b"Folded: one\n two\n\t three", b"Late:\n  value",
-    b"\xc3\xa9: x", b"a b: c:d", b"Payload-Oxum-Not: x", b"Payload-Oxum\xc2\xa0: x", b"Payload-Oxum\x0c: x",
-    b"x: Payload-Oxum: x", b"Spaced:   x  ", b"Gap: one\n\n two"]
+    b"Contact-Name: Ada", b"Contact-Name:\tBen", b"Empty:", b"Empty: ", b"Folded: one\n two\n\t three",
+    b"Late:\n  value", b"\xc3\xa9: x", b"a b: c:d", b"Payload-Oxum-Not: x", b"Payload-Oxum\xc2\xa0: x",
+    b"Payload-Oxum\x0c: x", b"x: Payload-Oxum: x", b"Spaced:   x  ", b"Gap: one\n\n two"]
 # Some are good in version 0.97.
 BAD_ELEMENTS = [
-    b"no colon", b"no colon", b"Label:value", b"Label : value", b": value", b":", b":x", b":a: b", b"\xef\xbb\xbfLabel: x",
-    b"L\xff: x", b"\xef\xbb\xbf : x", b"a:b: c", b"a\t:b", b"Label:\xc2\xa0x", b"Label\xc2\xa0:x"]
+    b"no colon", b"no colon", b"Label:value", b"Label : value", b": value", b":", b":x", b":a: b",
+    b"\xef\xbb\xbfLabel: x", b"L\xff: x", b"\xef\xbb\xbf : x", b"a:b: c", b"a\t:b", b"Label:\xc2\xa0x",
+    b"Label\xc2\xa0:x"]
 OTHER_VERSIONS = [
-    b"0.96", b"0.98", b"0.9", b"1.97", b"1.1", b"2.0", b"0.970", b"01.0", b"00.97", b"1.00", b"0.097", b"1", b"97", b"1.0 ",
-    b" 0.97", b"1.0.0", b"0.97.0", b"1.1234567890", b"999999999.0", b"1,0", b""]
+    b"0.96", b"0.98", b"0.9", b"1.97", b"1.1", b"2.0", b"0.970", b"01.0", b"00.97", b"1.00", b"0.097", b"1", b"97",
+    b"1.0 ", b" 0.97", b"1.0.0", b"0.97.0", b"1.1234567890", b"999999999.0", b"1,0", b""]
 OTHER_ENCODINGS = [
     b"utf-8", b"Utf-8", b"ISO-8859-1", b"UTF-16", b"UTF8", b"", b"UTF-8 ", b"UTF 8", b"\xc3\xa9", b"UTF\xff8"]
 # Lengths in octets at the edges of the blocks that are hashed, of a piece, and of the buffer of a check.
@@ -99,7 +101,8 @@ def colon(rng, version):
 
 
 def holders(rng, version, number):
-    """Which of so many payload manifests list a path, by their places: in 1.0 all, in 0.97 some, and now and then none."""
+    """Which of so many payload manifests list a path, by their places: in 1.0 all, in 0.97 some, and now and then
+    none."""
     if sometimes(rng, 97 if version == b"1.0" else 35):
         return range(number)
     least = 0 if sometimes(rng, 20) else 1
@@ -230,7 +233,8 @@ class Bag:
         paths = self.payload() or [b"data/none"]
         for _ in range(rng.randrange(4)):
             path = rng.choice(paths)
-            length = rng.choice([b"-", b"%d" % len(self.files.get(path, b"")), b"%03d" % len(self.files.get(path, b""))])
+            length = rng.choice([b"-", b"%d" % len(self.files.get(path, b"")),
+                b"%03d" % len(self.files.get(path, b""))])
             url, gap = rng.choice(GOOD_URLS), rng.choice([b" ", b"  ", b"\t"])
             spelling = spelled(rng, path, self.version)
             if sometimes(rng, 18):
@@ -260,7 +264,8 @@ class Bag:
     def change_file(self):
         path = self.rng.choice(self.payload() or list(self.files))
         octets = self.files[path]
-        self.files[path] = self.rng.choice([octets + b"x", octets[:-1], bytes([octets[0] ^ 1]) + octets[1:] if octets else b"y"])
+        self.files[path] = self.rng.choice(
+            [octets + b"x", octets[:-1], bytes([octets[0] ^ 1]) + octets[1:] if octets else b"y"])
 
     def rename_file(self):
         paths = self.payload()
@@ -277,7 +282,8 @@ class Bag:
         """One manifest gets the name of another, or an unknown name."""
         path = self.tag_file((b"manifest-", b"tagmanifest-"))
         if path:
-            name = self.rng.choice(ALGORITHMS).encode() if sometimes(self.rng, 50) else self.rng.choice(OTHER_ALGORITHMS)
+            name = (
+                self.rng.choice(ALGORITHMS).encode() if sometimes(self.rng, 50) else self.rng.choice(OTHER_ALGORITHMS))
             self.files[self.rng.choice([b"manifest-%s.txt", b"tagmanifest-%s.txt"]) % name] = self.files[path]
 
     def empty_manifest(self):
@@ -379,9 +385,11 @@ class Bag:
                 make(place)
 
 
-DAMAGES = [Bag.drop_file] * 4 + [Bag.add_file] * 3 + [Bag.change_file] * 5 + [Bag.rename_file] * 3 + [Bag.swap_files] * 2 + [
-    Bag.copy_manifest] * 2 + [Bag.damage_line] * 8 + [Bag.damage_octet] * 8 + [Bag.declare] * 4 + [
-    Bag.drop_payload_directory, Bag.drop_payload, Bag.drop_manifests, Bag.empty_manifest, Bag.put_directory, Bag.put_special]
+DAMAGES = (
+    [Bag.drop_file] * 4 + [Bag.add_file] * 3 + [Bag.change_file] * 5 + [Bag.rename_file] * 3 + [Bag.swap_files] * 2
+    + [Bag.copy_manifest] * 2 + [Bag.damage_line] * 8 + [Bag.damage_octet] * 8 + [Bag.declare] * 4 + [
+        Bag.drop_payload_directory, Bag.drop_payload, Bag.drop_manifests, Bag.empty_manifest, Bag.put_directory,
+        Bag.put_special])
 
 
 def made(seed, number):
@@ -420,7 +428,8 @@ def shapes():
     lines = [f"{file}:N: {cause}" for file, some in causes.items() for cause in some]
     faults = ["not UTF-8", "byte order mark", "line count", "label", "version", "encoding name"]
     lines += [f"bagit.txt: {fault}" for fault in faults]
-    lines += ["no bagit.txt", "no data directory", "no payload manifest", "tagmanifest: not listed", "manifest: unlisted"]
+    lines += ["no bagit.txt", "no data directory", "no payload manifest", "tagmanifest: not listed",
+        "manifest: unlisted"]
     lines += [f"bag-info.txt: Payload-Oxum {word}" for word in ["form", "repeated", "wrong"]]
     lines += [f"{file}: {word}" for file in ["manifest", "tagmanifest"] for word in ["missing", "digest"]]
     lines += ["fetch.txt: not in", "fetch.txt:N: length", "outside: version", "outside: encoding", "outside: algorithm"]
@@ -450,7 +459,8 @@ def main(program, seed, number):
             counts[kind] = counts.get(kind, 0) + 1
         shutil.rmtree(folder)
     os.rmdir(work)
-    never = [f"never printed for a bag of {version.decode()}: {line}" for (line, version), count in counts.items() if count == 0]
+    never = [f"never printed for a bag of {version.decode()}: {line}" for (line, version), count in counts.items()
+        if count == 0]
     print("\n".join([f"{judged} bags: all judged alike"] + never))
     return 1 if never or judged == 0 else 0
 

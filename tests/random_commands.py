@@ -1,8 +1,8 @@
 #!/usr/bin/env python3
-"""random_commands.py PROGRAM COUNT SEED [NUMBER]: makes COUNT runs of 8 to 20 random commands of the program on ledgers and
-folders. It compares each line and status with those of tests/reference_commands.py, each folder that a command makes, octet by
-octet, and after each run each ledger as sqlite3 reads it. The same seed makes the same runs; with NUMBER only that run is made. A
-run that differs is reported with its commands, and its folder is kept.
+"""random_commands.py PROGRAM COUNT SEED [NUMBER]: makes COUNT runs of 8 to 20 random commands of the program on ledgers
+and folders. It compares each line and status with those of tests/reference_commands.py, each folder that a command
+makes, octet by octet, and after each run each ledger as sqlite3 reads it. The same seed makes the same runs; with
+NUMBER only that run is made. A run that differs is reported with its commands, and its folder is kept.
 """
 import collections
 import os
@@ -29,7 +29,8 @@ FOLDER_NAMES = [b"in", b"two words", b"line\nfeed", b"100%", b"\xc3\xa9", b"*", 
 # What is used in place of a folder, or isn't one.
 NO_FOLDERS = [b"", b"none", b"none/none", b"text", b"text/none", b"nowhere", b"empty"]
 # What is used in place of a ledger, or may become one.
-OTHER_LEDGERS = [b"new ledger", b"empty", b"no tables", b"text", b"cut", b"application", b"some folder", b"linked ledger", b"none/ledger",
+OTHER_LEDGERS = [b"new ledger", b"empty", b"no tables", b"text", b"cut", b"application", b"some folder",
+                 b"linked ledger", b"none/ledger",
                  b"text/ledger"]
 # The lines by which a ledger is refused.
 LEDGERS = ("bag: not a ledger", "bag: damaged", "bag: store")
@@ -43,19 +44,24 @@ FIRST = """CREATE TABLE item (transfer INTEGER NOT NULL REFERENCES transfer(id),
 CHANGES = [
     "UPDATE held SET size = size - 1", "UPDATE held SET size = size + 65536 WHERE id = (SELECT max(id) FROM held)",
     "UPDATE piece SET body = zeroblob(length(body)) WHERE item = (SELECT max(item) FROM piece)",
-    "UPDATE piece SET n = n + 1 WHERE item = (SELECT min(item) FROM piece)", "INSERT INTO piece SELECT id, 9, x'00' FROM held",
-    "DELETE FROM piece WHERE item = (SELECT min(item) FROM piece)", "INSERT INTO piece VALUES (99999, 0, x'00')",
-    "UPDATE held SET path = path || 'x'", "UPDATE held SET path = 'note' WHERE id = (SELECT max(id) FROM held)",
-    "INSERT INTO held SELECT 99999, max(id), 'data/none', 0 FROM transfer", "INSERT INTO held VALUES (99999, 99999, 'data/none', 0)",
-    "DELETE FROM tag WHERE path = 'bagit.txt'", "UPDATE tag SET path = 'bag-info.txt' WHERE path = 'bagit.txt'",
+    "UPDATE piece SET n = n + 1 WHERE item = (SELECT min(item) FROM piece)",
+    "INSERT INTO piece SELECT id, 9, x'00' FROM held", "DELETE FROM piece WHERE item = (SELECT min(item) FROM piece)",
+    "INSERT INTO piece VALUES (99999, 0, x'00')", "UPDATE held SET path = path || 'x'",
+    "UPDATE held SET path = 'note' WHERE id = (SELECT max(id) FROM held)",
+    "INSERT INTO held SELECT 99999, max(id), 'data/none', 0 FROM transfer",
+    "INSERT INTO held VALUES (99999, 99999, 'data/none', 0)", "DELETE FROM tag WHERE path = 'bagit.txt'",
+    "UPDATE tag SET path = 'bag-info.txt' WHERE path = 'bagit.txt'",
     "UPDATE tag SET body = x'00' WHERE transfer = (SELECT max(id) FROM transfer)", "DELETE FROM tag",
     "INSERT INTO tag SELECT max(id), 'data/note', x'00' FROM transfer", "INSERT INTO tag VALUES (99999, 'note', x'00')",
-    "DELETE FROM transfer", "DELETE FROM transfer WHERE id = (SELECT max(id) FROM transfer)",
-    *[FIRST] * 4, FIRST + "; UPDATE item SET body = zeroblob(length(body))", FIRST + "; UPDATE item SET size = size - 1",
-    FIRST + "; INSERT INTO item VALUES (99999, 'data/none', 0, x'')", "UPDATE meta SET v = 1", "UPDATE meta SET v = 3", "UPDATE meta SET k = 'ledger'", "DELETE FROM meta",
-    "INSERT INTO meta VALUES ('more', 2)", "DROP TABLE piece", "DROP TABLE meta", "ALTER TABLE held RENAME COLUMN size TO length",
-] + ["VACUUM", "UPDATE held SET id = id + 1000; UPDATE piece SET item = item + 1000", "DELETE FROM piece; DELETE FROM held",
-     "CREATE TABLE more (x)", "UPDATE transfer SET id = id + 7; UPDATE tag SET transfer = transfer + 7; UPDATE held SET transfer = "
+    "DELETE FROM transfer", "DELETE FROM transfer WHERE id = (SELECT max(id) FROM transfer)", *[FIRST] * 4,
+    FIRST + "; UPDATE item SET body = zeroblob(length(body))", FIRST + "; UPDATE item SET size = size - 1",
+    FIRST + "; INSERT INTO item VALUES (99999, 'data/none', 0, x'')", "UPDATE meta SET v = 1", "UPDATE meta SET v = 3",
+    "UPDATE meta SET k = 'ledger'", "DELETE FROM meta", "INSERT INTO meta VALUES ('more', 2)", "DROP TABLE piece",
+    "DROP TABLE meta", "ALTER TABLE held RENAME COLUMN size TO length",
+] + ["VACUUM", "UPDATE held SET id = id + 1000; UPDATE piece SET item = item + 1000",
+     "DELETE FROM piece; DELETE FROM held",
+     "CREATE TABLE more (x)",
+     "UPDATE transfer SET id = id + 7; UPDATE tag SET transfer = transfer + 7; UPDATE held SET transfer = "
      "transfer + 7", "UPDATE transfer SET name = name || '%' || char(10) || ' T'"] * 3
 
 
@@ -169,7 +175,8 @@ class Run:
         """A new folder with these files, if they can exist next to each other, and after them what isn't a file."""
         name = self.new_name()
         files = {path: octets for path, octets in files.items() if fits(path)}
-        random_bags.Bag.write(types.SimpleNamespace(files=files, directories=directories, specials=dict(specials)), name)
+        random_bags.Bag.write(types.SimpleNamespace(files=files, directories=directories, specials=dict(specials)),
+            name)
         return name
 
     def worded(self, name):
@@ -206,7 +213,8 @@ class Run:
         return self.put({**files, **(dict(offer.tags) if sometimes(rng, 20) else {})}, self.special(4))
 
     def supplier_folder(self):
-        """Some of what is to be fetched is there, some is changed, and some has something else in its place or on its way."""
+        """Some of what is to be fetched is there, some is changed, and some has something else in its place or on its
+        way."""
         rng, offer = self.rng, self.offer()
         files, specials, directories = {}, self.special(10), []
         for path, octets in offer.payload:
@@ -252,7 +260,8 @@ class Run:
         return [b"begin", self.some_ledger(), self.some_name(), self.worded(folder)]
 
     def intake(self):
-        folders = [self.some_bag() if sometimes(self.rng, 15) else self.payload_folder() for _ in range(self.rng.choice([1, 1, 2, 3]))]
+        folders = [self.some_bag() if sometimes(self.rng, 15) else self.payload_folder()
+            for _ in range(self.rng.choice([1, 1, 2, 3]))]
         return [b"intake", self.some_ledger(), self.some_name(), *map(self.worded, folders)]
 
     def fetch(self):
@@ -265,7 +274,8 @@ class Run:
         offer = self.offer()
         files = {path.removeprefix(b"data/"): octets for path, octets in offer.payload}
         source = self.put({**files, **({b"data": b"x"} if sometimes(self.rng, 20) else {})}, self.special(6))
-        algorithms = self.rng.choices(list(reference.ALGORITHMS) * 9 + [b"sha224", b"SHA1", b""], k=self.rng.choice([1, 1, 2, 5]))
+        algorithms = self.rng.choices(list(reference.ALGORITHMS) * 9 + [b"sha224", b"SHA1", b""],
+            k=self.rng.choice([1, 1, 2, 5]))
         return [b"make", self.worded(source), self.new_folder(), *algorithms]
 
     def check(self):
@@ -282,9 +292,9 @@ class Run:
         rng, words = self.rng, self.some_command()
         place = rng.randrange(len(words) + 1)
         return rng.choice([
-            [], words[:place], [*words[:place], b"more", *words[place:]], [*words[:place], b"--no", *words[place:]], [words[0].upper(), *words[1:]],
-            [words[0], b"--", *words[1:]], [words[0], b"--", *words[1:]], [*words, b"--"], [*words[:-1], b"\xff"], [words[0], b"--help"],
-            [b"help", words[0]]])
+            [], words[:place], [*words[:place], b"more", *words[place:]], [*words[:place], b"--no", *words[place:]],
+            [words[0].upper(), *words[1:]], [words[0], b"--", *words[1:]], [words[0], b"--", *words[1:]],
+            [*words, b"--"], [*words[:-1], b"\xff"], [words[0], b"--help"], [b"help", words[0]]])
 
     def some_command(self):
         ways = [self.begin] * 4 + [self.intake] * 6 + [self.fetch] * 4 + [self.export] * 2 + [self.view] * 4
@@ -309,10 +319,12 @@ class Run:
         self.commands.locked = locked
         wanted = self.commands.answer(words)
         # A part of a ledger may be reported as one that can't be read.
-        allowed = [wanted, wanted._replace(lines=["bag: store"])] if b"cut" in words and wanted.lines == ["bag: not a ledger"] else [wanted]
+        allowed = ([wanted, wanted._replace(lines=["bag: store"])]
+            if b"cut" in words and wanted.lines == ["bag: not a ledger"] else [wanted])
         # A process that opens and closes a file that it has locked unlocks it, so nothing else is done in the meantime.
         others = [another_program(ledger) for ledger in locked]
-        ran = subprocess.run([self.program, *words], stdin=subprocess.DEVNULL, capture_output=True, timeout=60, check=False)
+        ran = subprocess.run([self.program, *words], stdin=subprocess.DEVNULL, capture_output=True, timeout=60,
+            check=False)
         for other in others:
             other.close()
         self.judge_text(ran, allowed[-1] if ran.stdout == b"bag: store\n" else wanted)
@@ -340,7 +352,8 @@ class Run:
         """The names of everything that exists now."""
         made = set()
         if wanted.made is not None:
-            folder = reference_commands.request(words)[1][-1 if words[0] == b"export" else 1].strip(b"/").removeprefix(b"./")
+            operand = reference_commands.request(words)[1][-1 if words[0] == b"export" else 1]
+            folder = operand.strip(b"/").removeprefix(b"./")
             if reference_commands.found_in(folder) != reference_commands.folder_of(wanted.made):
                 raise Otherwise(f"{folder} holds other files")
             self.bags.append(folder)
@@ -353,7 +366,8 @@ class Run:
         """Each ledger as sqlite3 reads it."""
         for ledger, receiver in self.commands.receivers.items():
             database = sqlite3.connect(ledger)
-            faults = [database.execute(f"PRAGMA {check}").fetchall() for check in ("integrity_check", "foreign_key_check")]
+            faults = [database.execute(f"PRAGMA {check}").fetchall()
+                for check in ("integrity_check", "foreign_key_check")]
             database.close()
             if faults != [[("ok",)], []]:
                 raise Otherwise(f"sqlite3 says of {ledger}: {faults}")
@@ -379,8 +393,10 @@ def all_names():
 
 
 def octets_of(words):
-    """Those of the ledger that the words name, if they do and it is a file, and if it isn't one that `begin` makes a ledger of."""
-    if len(words) > 1 and os.path.isfile(words[1]) and not (words[0] == b"begin" and reference_commands.is_without_tables(words[1])):
+    """Those of the ledger that the words name, if they do and it is a file, and if it isn't one that `begin` makes a
+    ledger of."""
+    if len(words) > 1 and os.path.isfile(words[1]) and not (words[0] == b"begin"
+        and reference_commands.is_without_tables(words[1])):
         with open(words[1], "rb") as file:
             return file.read()
     return None
@@ -397,8 +413,10 @@ def kind_of(words, line, status):
     word = words[0].decode()
     if word == "list" and status == 0:
         return "list: a name"
-    line = re.sub("^(taken|repeated|bag: damaged|made|exported|unknown algorithm|refused: clash|outside)[: ].*", r"\1", line)
-    line = re.sub("^refused data/.*: (digest|[a-z ]+)( [a-z0-9]+)?$", r"refused PATH: \1", line) if word in ("intake", "fetch") else line
+    line = re.sub("^(taken|repeated|bag: damaged|made|exported|unknown algorithm|refused: clash|outside)[: ].*", r"\1",
+        line)
+    line = (re.sub("^refused data/.*: (digest|[a-z ]+)( [a-z0-9]+)?$", r"refused PATH: \1", line)
+        if word in ("intake", "fetch") else line)
     start = "refused: " if line.startswith("refused: ") else ""
     return f"{word}: {start}{random_bags.shape(line.removeprefix(start))}"
 
@@ -409,7 +427,8 @@ def kinds():
     ledgers = list(LEDGERS)
     some = {
         "begin": ["new", "again", "outside", "bag: files", *ledgers] + [
-            f"refused: {why}" for why in ("name", "tag too large", "differs", "clash", "no bagit.txt", "no payload manifest",
+            f"refused: {why}" for why in ("name", "tag too large", "differs", "clash", "no bagit.txt",
+                                          "no payload manifest",
                                           "tagmanifest: missing", "tagmanifest: digest")],
         "intake": ["taken", "repeated", "bag: files", *ledgers] + [
             f"refused PATH: {why}" for why in ("no transfer", "not listed", "length", "digest")],

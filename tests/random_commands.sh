@@ -5,11 +5,11 @@ set -u
 cd "$(dirname -- "$0")/.." || exit 1
 . tests/common.bash
 
-build_first
+take_program
 runs=200
 [ "${1-}" != --all ] || runs=2000
 # It prints how many there were, or the first command that is answered differently, with those before it.
 expect 'random commands' 0 '' env TMPDIR="$work" sh -c 'python3 -B tests/random_commands.py "$1" "$2" 1 >"$3"' \
-    sh crates/bag_program/out/bag_program "$runs" "$work/tried"
+    sh "$program" "$runs" "$work/tried"
 cat "$work/tried"
 finish

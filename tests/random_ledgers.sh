@@ -5,10 +5,10 @@ set -u
 cd "$(dirname -- "$0")/.." || exit 1
 . tests/common.bash
 
-build_first
+take_program
 build_driver
 # It prints the seed and what it tried.
 expect 'random ledgers' 0 '' env TMPDIR="$work" python3 -B tests/random_ledgers.py \
-    crates/bag_program/out/bag_program "$driver" "${LEDGER_SECONDS-60}" "${LEDGER_SEED-}" "$work/tried"
+    "$program" "$driver" "${LEDGER_SECONDS-60}" "${LEDGER_SEED-}" "$work/tried"
 cat "$work/tried"
 finish

@@ -1,9 +1,10 @@
 #!/usr/bin/env python3
-"""A second implementation of the commands of `bag`: what each prints, its status, and what it leaves behind. Written from
-docs/FORMAT.md and docs/bag.1; it uses the rules of tests/reference.py and tests/reference_receiver.py. tests/random_commands.py
-compares the two.
+"""A second implementation of the commands of `bag`: what each prints, its status, and what it leaves behind. Written
+from docs/FORMAT.md and docs/bag.1; it uses the rules of tests/reference.py and tests/reference_receiver.py.
+tests/random_commands.py compares the two.
 
-The numbers in brackets are sections of docs/FORMAT.md. Arguments, names, paths and contents are octets; lines are texts.
+The numbers in brackets are sections of docs/FORMAT.md. Arguments, names, paths and contents are octets; lines are
+texts.
 """
 import collections
 import os
@@ -25,7 +26,8 @@ BOTH = {"meta": "k, v", "transfer": "id, name", "tag": "transfer, path, body"}
 COLUMNS = {1: {**BOTH, "item": "transfer, path, size, body"},
            2: {**BOTH, "held": "id, transfer, path, size", "piece": "item, n, body"}}
 # The tables whose rows have owners: the column that says which, and the table of the owners.
-OWNERS = {"tag": ("transfer", "transfer"), "item": ("transfer", "transfer"), "held": ("transfer", "transfer"), "piece": ("item", "held")}
+OWNERS = {"tag": ("transfer", "transfer"), "item": ("transfer", "transfer"), "held": ("transfer", "transfer"),
+    "piece": ("item", "held")}
 PIECE = 65536
 
 # The lines, if they are known, and the status. `made` is the octets of the files, by path, in the folder that is made.
@@ -90,7 +92,8 @@ def refuse_unless_new(folder):
 
 
 def supplied(folder, path):
-    """The octets of the file at this path below the folder; None if nothing exists there. No link below the folder is followed."""
+    """The octets of the file at this path below the folder; None if nothing exists there. No link below the folder is
+    followed."""
     place = folder
     *directories, name = path.split(b"/")
     for directory in directories:
@@ -113,6 +116,13 @@ def copy_ledger(file, copy):
     for end in "", "-wal":
         if not end or os.path.lexists(file + end):
             shutil.copyfile(file + end, copy + end)
+
+
+def is_log_alone(ledger):
+    """Whether there is no file, or an empty one, beside a log that is longer than that of a new ledger."""
+    file = os.fsencode(os.path.realpath(ledger))
+    log, is_there = file + b"-wal", os.path.lexists(file) and not (os.path.isfile(file) and os.path.getsize(file) == 0)
+    return not is_there and os.path.isfile(log) and os.path.getsize(log) > 41
 
 
 def is_without_tables(file):
@@ -188,7 +198,8 @@ def format_of(database):
 def held_in(database, number):
     receiver = reference_receiver.Receiver()
     for transfer, name in sorted(database.ask("SELECT id, name FROM transfer"), key=lambda row: row[1].encode()):
-        tags = {path.encode(): body for path, body in database.ask("SELECT path, body FROM tag WHERE transfer = ?", transfer)}
+        tags = {path.encode(): body for path, body in database.ask("SELECT path, body FROM tag WHERE transfer = ?",
+            transfer)}
         try:
             found = reference_receiver.Transfer(reference_receiver.tags_of(tags.items()))
         except Refused:
@@ -229,7 +240,8 @@ def whole_content(database, item, size):
 
 
 class Commands:
-    """The ledgers, by the names of their files, and which of them another program has locked. No name is that of a link."""
+    """The ledgers, by the names of their files, and which of them another program has locked. No name is that of a
+    link."""
 
     def __init__(self):
         self.receivers, self.locked = {}, set()
@@ -252,15 +264,15 @@ class Commands:
     def opened(self, ledger):
         """The receiver of the ledger in this file."""
         file = os.path.realpath(ledger)
-        if file in self.locked:
+        if file in self.locked or is_log_alone(file):
             raise fault("store")
         if file not in self.receivers:
             self.receivers[file] = read_ledger(file)
         return self.receivers[file]
 
     def made(self, ledger):
-        """The receiver of a ledger that is made in this file. A file that didn't exist is removed again unless the status is 0; one
-        that existed stays, and is a ledger from then on."""
+        """The receiver of a ledger that is made in this file. A file that didn't exist is removed again unless the
+        status is 0; one that existed stays, and is a ledger from then on."""
         if not os.path.isdir(os.path.dirname(ledger) or b"."):
             raise fault("store")
         if os.path.lexists(ledger):
@@ -278,7 +290,7 @@ class Commands:
         refuse_unless_new(destination)
         for algorithm in algorithms:
             if algorithm not in reference.ALGORITHMS:
-                return Answer(["unknown algorithm " + algorithm.decode()], 64)
+                return Answer(["unknown algorithm " + reference.spell(algorithm).decode()], 64)
         names = [algorithm.decode() for algorithm in algorithms]
         order = new_bags.Order({path.decode(): octets for path, octets in files.items()}, names)
         _, made = order.answer()
@@ -286,9 +298,13 @@ class Commands:
         return Answer([f"made {number} files, {octets} octets"], 0, made)
 
     def begin(self, ledger, name, folder):
-        receiver = self.made(ledger) if not os.path.lexists(ledger) or is_without_tables(ledger) else self.opened(ledger)
+        if is_log_alone(ledger):
+            raise fault("store")
+        is_new = not os.path.lexists(ledger) or is_without_tables(ledger)
+        receiver = self.made(ledger) if is_new else self.opened(ledger)
         bag = tree(folder)
-        answer = receiver.begin(name, [(path, bag.octets(path)) for path in bag.paths if not reference.is_payload(path)])
+        answer = receiver.begin(name,
+            [(path, bag.octets(path)) for path in bag.paths if not reference.is_payload(path)])
         if answer in ("new", "again"):
             self.receivers[os.path.realpath(ledger)] = receiver
             return Answer([answer], 0)
@@ -300,7 +316,8 @@ class Commands:
 
     def intake(self, ledger, name, *folders):
         receiver = self.opened(ledger)
-        lines = [deliver(receiver, name, path, bag.octets(path)) for bag in list(map(tree, folders)) for path in bag.payload]
+        lines = [deliver(receiver, name, path, bag.octets(path)) for bag in list(map(tree, folders))
+            for path in bag.payload]
         return Answer(lines, 1 if any(line.startswith("refused ") for line in lines) else 0)
 
     def report(self, ledger, name):
@@ -319,7 +336,8 @@ class Commands:
         for path in transfer.fetch:
             if path not in transfer.held:
                 lines.append(ask_for(receiver, name, path, folder))
-        is_failed, is_refused = (any(line.startswith("refused ") and line.endswith(end) for line in lines) for end in (": supplier", ""))
+        is_failed, is_refused = (any(line.startswith("refused ") and line.endswith(end) for line in lines)
+            for end in (": supplier", ""))
         return Answer(lines, 3 if is_failed else 1 if is_refused else 0)
 
     def export(self, ledger, name, folder):

@@ -2,7 +2,8 @@
 """A second implementation of the receiver of transfers, written only from docs/FORMAT.md; it uses the rules of
 tests/reference.py. tests/deliveries.py compares the two, and tests/worked_answers.py has worked cases for both.
 
-The numbers in brackets are sections of docs/FORMAT.md. Names, paths and contents are octets; an answer is the text of its line.
+The numbers in brackets are sections of docs/FORMAT.md. Names, paths and contents are octets; an answer is the text of
+its line.
 """
 import hashlib
 import re
@@ -154,7 +155,8 @@ class Receiver:
         return "refused: too large" if len(octets) > ITEM_LIMIT else "refused: reader"
 
     def run(self, name, items, breaks=False):
-        """The answers, and how the run ended. `items` are pairs of path and octets. If it breaks, the reader of the first one fails."""
+        """The answers, and how the run ended. `items` are pairs of path and octets. If it breaks, the reader of the
+        first one fails."""
         answers = [
             self.fail(name, path, octets) if breaks and place == 0 else self.deliver(name, path, octets)
             for place, (path, octets) in enumerate(items[:RUN_LIMIT])

@@ -1,8 +1,9 @@
-"""Judges the answers to a list of calls, in which one request for memory may have been refused, or one call of a device may have failed. It
-was written from docs/FORMAT.md, with the second programs for it (tests/reference.py, reference_receiver.py, new_bags.py, feeds.py). What a
-refusal may do is this: the call that met it answers what is due, or that it was refused, and then nothing has changed; all other calls
-answer what is due for what is held. After a failure of its store a ledger answers nothing else until it is opened again, and then the call
-in which the store failed was done, or not.
+"""Judges the answers to a list of calls, in which one request for memory may have been refused, or one call of a device
+may have failed. It was written from docs/FORMAT.md, with the second programs for it (tests/reference.py,
+reference_receiver.py, new_bags.py, feeds.py). What a refusal may do is this: the call that met it answers what is due,
+or that it was refused, and then nothing has changed; all other calls answer what is due for what is held. After a
+failure of its store a ledger answers nothing else until it is opened again, and then the call in which the store failed
+was done, or not.
 
 tests/refusals.py describes the calls and their answers.
 """
@@ -38,9 +39,11 @@ def shown(has_directory, files):
 
 @functools.lru_cache(maxsize=4)
 def held_in(log, database):
-    """The number of the format and the ledger that sqlite3 finds in these two files, which are given as `unhexed` takes them; 0 and None if there are no tables."""
+    """The number of the format and the ledger that sqlite3 finds in these two files, which are given as `unhexed` takes
+    them; 0 and None if there are no tables."""
     octets = unhexed(database)
-    # The first page of a new database is written with another first octet, which sqlite3 doesn't accept, and that octet comes last.
+    # The first page of a new database is written with another first octet, which sqlite3 doesn't accept, and that octet
+    # comes last.
     if octets[:16] == b"\0QLite format 3\0" and len(octets) <= 4_096:
         return 0, None
     with tempfile.TemporaryDirectory() as folder:
@@ -55,7 +58,8 @@ def held_in(log, database):
 
 
 def unhexed(field):
-    """The octets of a field in hex, in which zeros that follow each other are a number in parentheses; `-` if there are none."""
+    """The octets of a field in hex, in which zeros that follow each other are a number in parentheses; `-` if there are
+    none."""
     return bytes.fromhex(re.sub(r"\((\d+)\)", lambda zeros: "00" * int(zeros[1]), field.removeprefix("-")))
 
 
@@ -74,7 +78,8 @@ class World:
         self.receiver, self.is_spent, self.may = reference_receiver.Receiver(), False, []
         # The call in which the store failed, and whether a refusal was answered.
         self.doubt, self.has_refused = None, False
-        # The format of the ledger, if it is in files, of which there is none before it is made; or a database that is no ledger.
+        # The format of the ledger, if it is in files, of which there is none before it is made; or a database that is
+        # no ledger.
         self.formats, self.alien, self.due = {0}, None, "opened"
         self.clear()
 
@@ -100,7 +105,8 @@ class World:
         getattr(self, "judge_" + word.replace("-", "_"))((fields or [b""])[0], pairs(fields[1:]), answer)
 
     def refused(self, answer, due, call=None):
-        """The answer isn't the one that is due, and has to be a refusal that may be. `call` is what was to be done to the ledger."""
+        """The answer isn't the one that is due, and has to be a refusal that may be. `call` is what was to be done to
+        the ledger."""
         word = answer.removeprefix("refused: ")
         if self.is_spent and word == "store":
             return
@@ -147,7 +153,8 @@ class World:
         self.formats = {2} if answer == due else self.formats | {2}
 
     def judge_left(self, _, __, answer):
-        """What sqlite3 finds in the files of the ledger, if it is in files, once it was left as a program does that stops."""
+        """What sqlite3 finds in the files of the ledger, if it is in files, once it was left as a program does that
+        stops."""
         self.is_spent = False
         word, *files = answer.split(" ")
         if word != "left" or files and self.alien is not None and unhexed(files[1]) != self.alien:
@@ -178,7 +185,8 @@ class World:
             self.of_store(answer, due, due == "refused: differs")
         elif answer != due or self.is_spent:
             self.receiver.transfers = before
-            self.refused(answer, due, ("begin", name, *(field for file in files for field in file)) if due == "new" else None)
+            self.refused(answer, due, ("begin", name, *(field for file in files for field in file)) if due == "new"
+                else None)
 
     def judge_delivery(self, name, path, octets, answer):
         due = self.receiver.deliver(name, path, octets)
@@ -217,7 +225,8 @@ class World:
     def asked_for(self, name):
         """The number of each line of `fetch.txt`, with its path."""
         transfer = self.receiver.transfers[name]
-        return list(zip((number for number, _ in reference.numbered(transfer.tags.get(b"fetch.txt", b""))), transfer.fetch))
+        return list(zip((number for number, _ in reference.numbered(transfer.tags.get(b"fetch.txt", b""))),
+            transfer.fetch))
 
     def judge_fetch(self, name, files, answer):
         if name not in self.receiver.transfers:
@@ -329,7 +338,8 @@ class World:
         self.same(answer, octets_answer(DECLARATION))
 
     def judge_steps(self, answer, steps):
-        """A call of several steps, each of which may be refused. `steps` yields what is due at each, and is sent whether it was done."""
+        """A call of several steps, each of which may be refused. `steps` yields what is due at each, and is sent
+        whether it was done."""
         done = None
         for part in answer.split(" | "):
             due = next_of(steps, done)
@@ -412,7 +422,8 @@ class World:
         self.same(answer, reading(name, version, octets))
 
     def judge_feed(self, name, files, answer):
-        """Of a text that can be read, so that each piece is accepted. After memory ran out a feed answers nothing else."""
+        """Of a text that can be read, so that each piece is accepted. After memory ran out a feed answers nothing
+        else."""
         *given, end = answer.split(" | ")
         due = ["ok"] * len(files) + [reading(name, files[0][0], b"".join(piece for _, piece in files))]
         parts = [*given, end]
@@ -432,7 +443,7 @@ class World:
         names = [name.decode() for name, _ in files]
         unknown = [name for name in names if name not in ALGORITHMS]
         if unknown:
-            self.judge_told(answer, told(64, ["unknown algorithm " + unknown[0]]))
+            self.judge_told(answer, told(64, ["unknown algorithm " + reference.spell(unknown[0].encode()).decode()]))
             return
         order = self.order(names)
         refusal = order.refusal()
@@ -443,8 +454,8 @@ class World:
         self.judge_told(answer, " | ".join([told(0, [f"made {number} files, {octets} octets"]), *order.parts()[1:]]))
 
     def judge_told(self, answer, due):
-        """A command on the tree: what is due, or the one line of a refusal. If that could not be written, the work was done all the same, and
-        nothing was printed after a write that failed."""
+        """A command on the tree: what is due, or the one line of a refusal. If that could not be written, the work was
+        done all the same, and nothing was printed after a write that failed."""
         first, *found = answer.split(" | ")
         whole, *made = due.split(" | ")
         if answer == due:
@@ -452,7 +463,8 @@ class World:
         printed, all_of_it = (text.partition(" ")[2] for text in (first, whole))
         if self.may_be("writer") and first.startswith("3 ") and found == made and all_of_it.startswith(printed):
             return
-        lines = {told(3, ["bag: " + {"tree": "files", "sink": "files"}.get(word, word)]): word for words in self.may for word in words}
+        lines = {told(3, ["bag: " + {"tree": "files", "sink": "files"}.get(word, word)]): word for words in self.may
+            for word in words}
         self.refused("refused: " + lines[first] if first in lines else answer, due)
         are_part_of(found, due)
 
@@ -488,7 +500,8 @@ class World:
 
         def untold(lines):
             end = ends[lines.pop()] if lines and lines[-1] in ends else "done"
-            return " | ".join([*(untold_delivery(text, path) for text, (path, _) in zip(lines, files)), *lines[len(files):], end])
+            return " | ".join([*(untold_delivery(text, path) for text, (path, _) in zip(lines, files)),
+                *lines[len(files):], end])
 
         self.judge_command("bring", name, files, answer, untold)
 
@@ -503,7 +516,8 @@ class World:
             ["bag: memory"], ["bag: store"]) else " ".join(lines))
 
     def judge_fetch_to(self, name, files, answer):
-        due = [pair for pair in self.asked_for(name) if pair[1] not in self.receiver.transfers[name].held] if name in self.receiver.transfers else []
+        due = [pair for pair in self.asked_for(name)
+            if pair[1] not in self.receiver.transfers[name].held] if name in self.receiver.transfers else []
 
         def untold(lines):
             if len(lines) == 1 and lines[0].startswith("bag: "):
@@ -520,8 +534,9 @@ class World:
     def judge_export_to(self, name, files, answer):
         def untold(lines):
             text = only(lines)
-            return text.removesuffix(" files") if text.startswith("exported ") else text.replace("bag: files", "refused: sink").replace(
-                "bag: ", "refused: ")
+            if text.startswith("exported "):
+                return text.removesuffix(" files")
+            return text.replace("bag: files", "refused: sink").replace("bag: ", "refused: ")
 
         self.judge_command("export", name, files, answer, untold)
 
@@ -587,7 +602,8 @@ def status_of(lines):
 def path_answer(path):
     """A path and its kind, or the number of its first fault [4]."""
     segments = path.split(b"/")
-    faults = [not path, len(path) > reference.PATH_LIMIT, b"" in segments, b"." in segments or b".." in segments, b"\0" in path, path == b"data"]
+    faults = [not path, len(path) > reference.PATH_LIMIT, b"" in segments, b"." in segments or b".." in segments,
+        b"\0" in path, path == b"data"]
     if any(faults):
         return f"refused: {faults.index(True) + 1}"
     return ("payload " if reference.is_payload(path) else "tag ") + path.hex()

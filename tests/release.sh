@@ -21,6 +21,8 @@ for name in Z a 'a b' é; do
 done
 touch crates/low/src/none.rt crates/low/{specs,proofs}/Lib.antt crates/{bag_program,low_tests,other}/src/main.rt
 echo 'the manual page' >docs/bag.1
+mkdir completions
+touch LICENSE-APACHE LICENSE-MIT release/NOTICES completions/{bag.bash,_bag}
 
 # stand_in WORD: a program that prints its arguments, one per line after the word.
 stand_in() {
@@ -53,7 +55,7 @@ cat '$work/system'
 UNAME
 chmod +x "$work/kit/rt" "$work/tools/uname"
 echo 'Linux x86_64' >"$work/system"
-for tool in cat chmod date find gzip install mkdir mv readlink rm sed sh sha256sum sort touch xargs; do
+for tool in cat chmod date find gzip install mkdir mktemp mv readlink rm sed sh sha256sum sort touch xargs; do
     ln -s "$(command -v "$tool")" "$work/tools/$tool"
 done
 for tool in find readlink sh; do
@@ -121,7 +123,13 @@ expect 'through a link' 7 'released <word>' with_few "$work/link" word
 expect 'with the kit' 7 'released <word>' with_kit ./bag word
 expect 'nothing was built' 0 '' nothing crates/bag_program/out
 mkdir "$work/bin"
-expect 'installed' 0 '' without_kit ./install "$work/bin"
+# put FOLDER: what `install` says of it.
+put() {
+    printf "$1/%s\\n" bin/bag share/bash-completion/completions/bag share/doc/bag/{LICENSE-APACHE,LICENSE-MIT,NOTICES} \
+        share/man/man1/bag.1 share/zsh/site-functions/_bag
+    echo "$1/bin is not on PATH"
+}
+expect 'installed' 0 "$(put "$work/bin")" without_kit ./install "$work/bin"
 expect 'what is installed' 0 '' cmp "$work/released" "$work/bin/bin/bag"
 
 # noticed NAME EDIT UNDOING: after the edit the released program isn't run, and after the undoing it is. File times are
@@ -153,7 +161,8 @@ noticed 'a file that is removed' "mv $src/none.rt '$work/kept'" "mv '$work/kept'
 noticed 'a file that is renamed' "mv $src/a.rt $src/b.rt" "mv $src/b.rt $src/a.rt"
 noticed 'two files that are exchanged' "mv $src/a.rt '$work/kept'; mv $src/Z.rt $src/a.rt; mv '$work/kept' $src/Z.rt" \
     "mv $src/a.rt '$work/kept'; mv $src/Z.rt $src/a.rt; mv '$work/kept' $src/Z.rt"
-noticed 'a file that is in another crate' "mv $src/none.rt crates/bag_program/src" "mv crates/bag_program/src/none.rt $src"
+noticed 'a file that is in another crate' "mv $src/none.rt crates/bag_program/src" \
+    "mv crates/bag_program/src/none.rt $src"
 noticed 'a folder that is removed' "mv crates/low/proofs '$work/proofs'" "mv '$work/proofs' crates/low/proofs"
 noticed 'a folder that is added' "mkdir crates/bag_program/specs; : >crates/bag_program/specs/Lib.antt" \
     "rm -r crates/bag_program/specs"
@@ -198,11 +207,11 @@ sleep 0.05
 printf 'a first' >$src/a.rt
 expect 'the edit undone' 7 'released <word>' with_kit ./bag word
 expect 'the edit undone, and a later run' 7 'released <word>' with_few ./bag word
-expect 'installed beside an older build' 0 '' without_kit ./install "$work/bin"
+expect 'installed beside an older build' 0 "$(put "$work/bin")" without_kit ./install "$work/bin"
 expect 'what is installed beside an older build' 0 '' cmp "$work/released" "$work/bin/bin/bag"
 expect 'a build of released sources' 0 "$builds" with_kit ./build
 expect 'it is run' 7 'built <word>' with_few ./bag word
-expect 'it is installed' 0 '' without_kit ./install "$work/bin"
+expect 'it is installed' 0 "$(put "$work/bin")" without_kit ./install "$work/bin"
 expect 'what is installed is the build' 0 '' cmp "$work/built" "$work/bin/bin/bag"
 mv crates/bag_program/out "$work/out"
 rm -rf release/out
@@ -268,12 +277,71 @@ refused 'no compressed program' "$damaged" "cp '$work/released' release/bag.gz"
 refused 'no program' "$damaged" "rm release/bag.gz"
 refused 'another processor' 'bag: release 9.8.7 is for Linux x86_64' "echo 'Linux aarch64' >'$work/system'"
 echo 'Linux x86_64' >"$work/system"
-refused 'no place to unpack' "bag: release 9.8.7 cannot be unpacked into $repository/release/out" ": >release/out"
 printf '#!/bin/sh\necho "libc.so.6: version GLIBC_2.34 not found" >&2\nexit 1\n' >"$work/newer"
 refused 'an older C library' 'bag: release 9.8.7 does not run here: it needs glibc 2.34' "released '$work/newer'"
 refused 'the edit that all of these are compared with' "$differ" "printf 'a firsd' >$src/a.rt"
 printf 'a first' >$src/a.rt
 released "$work/released"
+
+rm "$work/tools/gzip"
+expect 'no gzip' 69 'bag: release 9.8.7 cannot be unpacked: gzip is not on PATH'$'\n'"$no_kit" without_kit ./bag word
+ln -s "$(command -v gzip)" "$work/tools/gzip"
+
+# Where `release` is another user's, or cannot be written, each run unpacks the program for itself.
+temporary=$work/temporary
+mkdir -m 1777 "$temporary"
+chmod 755 "$work"
+# visitor COMMAND..: runs it as a user who may not write here, with a folder of his own for temporary files.
+visitor() {
+    TMPDIR=$temporary nobody "$BASH" -c 'PATH=$1; "${@:2}" 2>&1' bash "$work/tools" "$@"
+}
+# there: what is in `release` and in that folder.
+there() {
+    find release "$temporary" -mindepth 1 -printf '%f\n' | LC_ALL=C sort
+}
+chmod a-w release
+for run in first second; do
+    expect "what cannot be written, the $run run" 7 'released <word>' visitor ./bag word
+    expect "what cannot be written, the $run run: nothing is left" 0 $'NOTICES\nRELEASE\nbag.gz\nmake' there
+done
+mkdir -m 777 "$work/visitor"
+expect 'installed from what cannot be written' 0 "$(put "$work/visitor")" visitor ./install "$work/visitor"
+expect 'what is installed from there' 0 '' cmp "$work/released" "$work/visitor/bin/bag"
+why=$no_kit
+[ "$(id -u)" -ne 0 ] || why="bag: the program has to be built: let the owner of $repository run ./build"
+temporary=$work/none expect 'no place to unpack' 69 \
+    "bag: release 9.8.7 cannot be unpacked into $repository/release or $work/none"$'\n'"$why" visitor ./bag word
+chmod u+w release
+: >release/out
+expect 'no folder to unpack into' 7 'released <word>' without_kit ./bag word
+expect 'no folder to unpack into: nothing is left' 0 $'NOTICES\nRELEASE\nbag.gz\nmake\nout' there
+rm release/out
+if [ "$(id -u)" -eq 0 ]; then
+    cp -r . "$work/clone"
+    chown -R 65534:65534 "$work/clone"
+    # foreign: names what the owner of the clone could not replace in it.
+    foreign() {
+        find "$work/clone" ! -user 65534
+    }
+    expect 'installed by root in a clone of another user' 0 "$(put "$work/root")" \
+        without_kit "$work/clone/install" "$work/root"
+    expect 'its owner can replace all that is there' 0 '' foreign
+    expect 'run by root there' 7 'released <word>' without_kit "$work/clone/bag" word
+    expect 'its owner can replace all that is there then' 0 '' foreign
+    expect 'run by its owner' 7 'released <word>' visitor "$work/clone/bag" word
+    expect 'and kept' 7 'released <word>' with_few "$work/clone/bag" word
+    rm -r "$work/clone/release/out"
+    mkdir "$work/clone/release/out"
+    expect 'run by its owner, where root left a folder' 7 'released <word>' visitor "$work/clone/bag" word
+    rmdir "$work/clone/release/out"
+    echo more >>"$work/clone/$src/a.rt"
+    expect 'installed by root where it has to be built' 69 \
+        "$differ"$'\n'"bag: the program has to be built: let the owner of $work/clone run ./build" \
+        with_kit "$work/clone/install" "$work/root"
+    expect 'its owner can replace all that is there after it' 0 '' foreign
+else
+    lacking 'a clone of another user (this is not root)'
+fi
 
 # Many first runs at a time.
 at_once() {
@@ -382,7 +450,7 @@ PROGRAM
     sed -i 's/9\.8\.7/9.8.6/' docs/bag.1
     expect 'a manual page of another version' 1 'release: docs/bag.1 does not name 9.8.7 at its head' make_release 9.8.7
     git checkout -q docs/bag.1
-    expect 'nothing was written' 0 make ls release
+    expect 'nothing was written' 0 $'NOTICES\nmake' ls release
     stand_in script >crates/bag_program/out/bag_program
     expect 'a program that needs no C library' 1 'release: objdump finds no version of the C library in the program' \
         make_release 9.8.7

@@ -1,11 +1,11 @@
 #!/usr/bin/env python3
-"""reopened.py COUNT SEED DRIVER..: makes COUNT random ledgers in databases, leaves each of them several times, and opens it again,
-which reads and verifies all of it. All answers, before and after, are compared with those of tests/reference_receiver.py, and the
-first that differs is reported with its ledger. DRIVER.. reads the events from standard input (see tests/deliveries.py). The same
-seed makes the same ledgers.
+"""reopened.py COUNT SEED DRIVER..: makes COUNT random ledgers in databases, leaves each of them several times, and
+opens it again, which reads and verifies all of it. All answers, before and after, are compared with those of
+tests/reference_receiver.py, and the first that differs is reported with its ledger. DRIVER.. reads the events from
+standard input (see tests/deliveries.py). The same seed makes the same ledgers.
 
-A ledger has up to three transfers, and one in 250 has 300. Their names and paths have characters of every kind, their tag files and
-payload files are empty, have a piece, a part of one, or several.
+A ledger has up to three transfers, and one in 250 has 300. Their names and paths have characters of every kind, their
+tag files and payload files are empty, have a piece, a part of one, or several.
 """
 import hashlib
 import random
@@ -21,8 +21,8 @@ ALGORITHMS = ["md5", "sha1", "sha256", "sha512"]
 LETTERS = "abcdefghijklmnopqrstuvwxyz0123456789-"
 # Among others the first and the last character of each length in UTF-8, and those around the surrogates.
 CHARACTERS = [
-    *"aZ09 %*.'\"\\;?:", "%0A", "%25", "\n", "\r", "\t", "\x01", "\x1b", "\x7f", "\x80", "\u00e9", "\u0301", "\u07ff", "\u0800", "\u20ac",
-    "\ud7ff", "\ue000", "\ufeff", "\uffff", "\U00010000", "\U0001f600", "\U0010ffff"]
+    *"aZ09 %*.'\"\\;?:", "%0A", "%25", "\n", "\r", "\t", "\x01", "\x1b", "\x7f", "\x80", "\u00e9", "\u0301", "\u07ff",
+    "\u0800", "\u20ac", "\ud7ff", "\ue000", "\ufeff", "\uffff", "\U00010000", "\U0001f600", "\U0010ffff"]
 MANY, TRANSFERS = 250, 300
 
 
@@ -42,14 +42,16 @@ def paths(rng, number, front):
     found = []
     for _ in range(number):
         new = path(rng, front)
-        if reference.is_path(new) and not any(new == old or new.startswith(old + b"/") or old.startswith(new + b"/") for old in found):
+        if reference.is_path(new) and not any(new == old or new.startswith(old + b"/") or old.startswith(new + b"/")
+            for old in found):
             found.append(new)
     return found
 
 
 def octets(rng, small=30):
     """Of which one in `small` has about a piece or more."""
-    sizes = [0, 0, 1, 2, 55, 300, 4_000] if rng.randrange(small) else [65_535, 65_536, 65_537, 131_072, 131_073, 200_000]
+    large = [65_535, 65_536, 65_537, 131_072, 131_073, 200_000]
+    sizes = [0, 0, 1, 2, 55, 300, 4_000] if rng.randrange(small) else large
     return rng.randbytes(rng.choice(sizes))
 
 
@@ -67,7 +69,8 @@ class Transfer:
         self.name = name(rng)
         self.files = [(file, octets(rng, small)) for file in paths(rng, rng.randrange(2 if few else 12), "data/")]
         notes = [(file, octets(rng)) for file in paths(rng, rng.randrange(2), "notes/" if rng.randrange(2) else "x")]
-        manifests = [(f"manifest-{alg}.txt".encode(), manifest(alg, self.files)) for alg in rng.sample(ALGORITHMS, rng.choice([1, 1, 2, 4]))]
+        manifests = [(f"manifest-{alg}.txt".encode(), manifest(alg, self.files))
+            for alg in rng.sample(ALGORITHMS, rng.choice([1, 1, 2, 4]))]
         self.tags = [(b"bagit.txt", DECLARATION), *manifests, *notes]
 
     def event(self, word, files):
@@ -84,14 +87,16 @@ def made(seed, number):
     """The events on the ledger of this number."""
     rng = random.Random(f"{seed} {number}")
     many = number % MANY == MANY - 1
-    transfers = {one.name: one for one in (Transfer(rng, many) for _ in range(TRANSFERS if many else rng.randrange(4)))}.values()
+    transfers = {one.name: one for one in (Transfer(rng, many)
+        for _ in range(TRANSFERS if many else rng.randrange(4)))}.values()
     again = lambda: [("reopen",)] if rng.randrange(20 if many else 3) == 0 else []
     events = [("start",)]
     for one in transfers:
         events += [one.event("begin", rng.sample(one.tags, len(one.tags))), *again(), *one.deliveries(rng), *again()]
     events += [("reopen",), ("names",)]
     for one in rng.sample(list(transfers), min(len(transfers), 9)):
-        events += [one.event("begin", one.tags), *one.deliveries(rng), ("report", one.name), one.event("run", one.files)]
+        events += [one.event("begin", one.tags), *one.deliveries(rng), ("report", one.name),
+            one.event("run", one.files)]
     events += [("reopen",), ("names",)]
     return events + [("audit", one.name) for one in transfers]
 
@@ -111,7 +116,8 @@ def main(count, seed, *driver):
     printed = ran.stdout.decode(errors="replace").split("\n")
     for place, (number, event, text) in enumerate(wanted):
         if printed[place : place + 1] != [text]:
-            print(f"Ledger {number} of seed {seed}, {event}: {printed[place:place + 1]} is printed instead of {[text]}.")
+            given = printed[place : place + 1]
+            print(f"Ledger {number} of seed {seed}, {event}: {given} is printed instead of {[text]}.")
             print(f"The driver ends with {ran.returncode} and says {ran.stderr[-1000:]}.")
             return 1
     assert printed[len(wanted) :] == [""] and not ran.stderr and ran.returncode == 0, ran.stderr

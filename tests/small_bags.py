@@ -1,8 +1,8 @@
 #!/usr/bin/env python3
 """small_bags.py PROGRAM: small bags, each with the lines and the status that docs/FORMAT.md requires.
 
-The digests are those that the standards publish for `abc` and for the empty message (RFC 1321, FIPS 180-4), and those that
-sha256sum computes.
+The digests are those that the standards publish for `abc` and for the empty message (RFC 1321, FIPS 180-4), and those
+that sha256sum computes.
 """
 import sys
 
@@ -24,8 +24,8 @@ MANIFEST_SHA256 = b"456acbba2b2aa56b7fa3d4e9ac34b9475cc2c2a6694f5c4bd7975db51956
 DECLARATION_MD5 = b"eaa2c609ff6371712f623f5531945b44"
 MANIFEST_MD5 = b"8c29597bdd563ba8a8bd22ecc1a04b9a"
 
-# The digests that `md5sum`, `sha1sum`, `sha256sum` and `sha512sum` compute for the first octets of a message in which each octet
-# is its index modulo 251.
+# The digests that `md5sum`, `sha1sum`, `sha256sum` and `sha512sum` compute for the first octets of a message in which
+# each octet is its index modulo 251.
 BY_COREUTILS = {
     1: (
         b"93b885adfe0da089cdf634904fd59f71",
@@ -364,10 +364,12 @@ def digests():
     for name, published in PUBLISHED.items():
         lines = [digest + b"  data/%d\n" % place for place, digest in enumerate(published.values())]
         files = {b"data/%d" % place: message for place, message in enumerate(published)}
-        yield f"the published digests by {name}", empty({f"manifest-{name}.txt".encode(): b"".join(lines), **files}), VALID
+        yield f"the published digests by {name}", empty(
+            {f"manifest-{name}.txt".encode(): b"".join(lines), **files}), VALID
     digits = [PUBLISHED[name][b"abc"] for name in PUBLISHED]
     swapped = {b"data/a": b"abc", **{name: digest[:-1] + b"0  data/a" for name, digest in zip(MANIFESTS, digits)}}
-    yield "a last digit that is another", empty(swapped), complete(*[f"{name.decode()}: digest: data/a" for name in MANIFESTS])
+    yield "a last digit that is another", empty(swapped), complete(
+        *[f"{name.decode()}: digest: data/a" for name in MANIFESTS])
 
 
 def payloads():
@@ -390,7 +392,8 @@ def payloads():
 
 
 def infos():
-    form, repeated, wrong = [not_complete(f"bag-info.txt: Payload-Oxum {word}") for word in ("form", "repeated", "wrong")]
+    form, repeated, wrong = [not_complete(f"bag-info.txt: Payload-Oxum {word}")
+        for word in ("form", "repeated", "wrong")]
     for octets, answer in [
         (b"Payload-Oxum: 3.2", VALID),
         (MARK + b"Payload-Oxum: 3.2\n", VALID),
@@ -456,12 +459,14 @@ def tag_manifests():
         (listed + DECLARATION_SHA256 + b"  bagit.txt\n", VALID),
         *[(listed + E_SHA256 + b"  " + name, place) for name in (
             b"tagmanifest-md5.txt", b"tagmanifest-sha224.txt", b"tagmanifest-_.txt")],
-        *[(listed + E_SHA256 + b"  " + name, not_complete(f"tagmanifest-sha256.txt: missing: {name.decode()}")) for name in (
+        *[(listed + E_SHA256 + b"  " + name, not_complete(f"tagmanifest-sha256.txt: missing: {name.decode()}"))
+            for name in (
             b"note.txt", b"tagmanifest-.txt", b"tagmanifest-sha-1.txt", b"manifest-md5.txt", b"x/tagmanifest-md5.txt",
             b"tagmanifest-md5.txt/x")],
     ]:
         yield f"tagmanifest-sha256.txt: {octets}", tags({b"tagmanifest-sha256.txt": octets}), answer
-    odd = {b"*a": b"./*a", b" b": b"./ b", b"\tc": b"./\tc", b"**": b"./**", b"d\n%": b"d%0A%25", b".e/*": b".e/*", b"x ": b"x "}
+    odd = {b"*a": b"./*a", b" b": b"./ b", b"\tc": b"./\tc", b"**": b"./**", b"d\n%": b"d%0A%25", b".e/*": b".e/*",
+        b"x ": b"x "}
     lines = b"".join(E_SHA256 + b"  " + spelling + b"\n" for spelling in odd.values())
     files = {**dict.fromkeys(odd, b""), b"tagmanifest-sha256.txt": listed + lines}
     yield "tag files with odd names, as they are written", tags(files), VALID
@@ -474,7 +479,8 @@ def tag_manifests():
         (DECLARATION_MD5[:31] + b"g", form),
         (DECLARATION_MD5 + b"00000000", form),
     ]:
-        yield f"the digits {checksum} of MD5", tags({b"tagmanifest-md5.txt": listed + checksum + b" bagit.txt\n"}), answer
+        yield f"the digits {checksum} of MD5", tags(
+            {b"tagmanifest-md5.txt": listed + checksum + b" bagit.txt\n"}), answer
 
 
 def fetches():
@@ -493,7 +499,8 @@ def fetches():
         (a + b"0018446744073709551615 data/a.txt", length_1),
     ]:
         yield f"fetch.txt: {octets}", tags({b"fetch.txt": octets}), answer
-    names = ["manifest-md5.txt: data/y", "manifest-md5.txt: data/z", "manifest-sha256.txt: data/y", "manifest-sha256.txt: data/z"]
+    names = ["manifest-md5.txt: data/y", "manifest-md5.txt: data/z", "manifest-sha256.txt: data/y",
+        "manifest-sha256.txt: data/z"]
     files = {b"manifest-md5.txt": BOTH_BY_MD5, b"fetch.txt": z + y + y}
     yield "faults of fetch.txt", tags(files), not_complete(*[f"fetch.txt: not in {name}" for name in names])
 
@@ -547,7 +554,8 @@ def manifests_0_97():
          not_complete(f"{first}: unlisted: data/z")),
         ("two empty manifests", {b"manifest-md5.txt": b"", b"manifest-sha256.txt": b""},
          not_complete(f"{first}: unlisted: data/a.txt", f"{first}: unlisted: data/e.txt")),
-        ("one wrong digest of two", {b"manifest-md5.txt": E_MD5 + b"  data/a.txt\n"}, complete(f"{first}: digest: data/a.txt")),
+        ("one wrong digest of two", {b"manifest-md5.txt": E_MD5 + b"  data/a.txt\n"},
+            complete(f"{first}: digest: data/a.txt")),
         ("the only digest is wrong", {b"manifest-md5.txt": E_MD5 + b"  data/a.txt\n", b"manifest-sha256.txt": other},
          complete(f"{first}: digest: data/a.txt")),
         ("a missing file that one of two lists", {b"manifest-md5.txt": E_MD5 + b"  data/z\n"},
@@ -559,7 +567,8 @@ def manifests_0_97():
          not_complete(f"{first}: missing: data/a.txt", "manifest-sha256.txt: missing: data/a.txt")),
         ("an unlisted file, which counts for the Oxum", {b"data/z": b"", b"bag-info.txt": b"Payload-Oxum: 3.3"},
          not_complete("manifest-sha256.txt: unlisted: data/z")),
-        ("stars and dots", {b"manifest-md5.txt": b"", b"manifest-sha256.txt": A_SHA256.upper() + b"\t*./data/a.txt\r\n" + other},
+        ("stars and dots", {b"manifest-md5.txt": b"",
+            b"manifest-sha256.txt": A_SHA256.upper() + b"\t*./data/a.txt\r\n" + other},
          VALID),
         ("a line more", {b"manifest-md5.txt": one + b"?"}, not_complete(f"{first}:2: separator")),
         ("an unknown algorithm", {b"manifest-sha224.txt": b""}, outside("algorithm sha224")),
@@ -569,7 +578,8 @@ def manifests_0_97():
 
 
 def infos_0_97():
-    form, repeated, wrong = [not_complete(f"bag-info.txt: Payload-Oxum {word}") for word in ("form", "repeated", "wrong")]
+    form, repeated, wrong = [not_complete(f"bag-info.txt: Payload-Oxum {word}")
+        for word in ("form", "repeated", "wrong")]
     causes = "separator", "label", "nothing to continue"
     separator, label, nothing = [not_complete(f"bag-info.txt:1: {cause}") for cause in causes]
     label_2 = not_complete("bag-info.txt:2: label")
@@ -611,7 +621,8 @@ def paths_0_97():
     path = not_complete("manifest-sha256.txt:3: path")
 
     def other(spelled, printed):
-        return not_complete(f"manifest-sha256.txt: missing: data/{spelled}", f"manifest-sha256.txt: unlisted: data/{printed}")
+        return not_complete(f"manifest-sha256.txt: missing: data/{spelled}",
+            f"manifest-sha256.txt: unlisted: data/{printed}")
 
     for name, spelling, answer, before in [
         (b"%", b"%", VALID, path),
@@ -657,10 +668,12 @@ def tag_manifests_0_97():
         ("a second one, which lists none", {name: listed, b"tagmanifest-md5.txt": b""},
          not_complete("tagmanifest-md5.txt: not listed: manifest-sha256.txt")),
         ("a path with a percent sign", {name: listed + note, b"50%25": b""}, VALID),
-        ("a path without one", {name: listed + note, b"50%": b""}, not_complete("tagmanifest-sha256.txt: missing: 50%2525")),
+        ("a path without one", {name: listed + note, b"50%": b""},
+            not_complete("tagmanifest-sha256.txt: missing: 50%2525")),
         ("a wrong digest", {name: E_SHA256 + b"  manifest-sha256.txt"},
          complete("tagmanifest-sha256.txt: digest: manifest-sha256.txt")),
-        ("a payload file", {name: listed + E_SHA256 + b"  data/e.txt"}, not_complete("tagmanifest-sha256.txt:2: wrong place")),
+        ("a payload file", {name: listed + E_SHA256 + b"  data/e.txt"},
+            not_complete("tagmanifest-sha256.txt:2: wrong place")),
     ]:
         yield f"version 0.97: {title}", tags_0_97(files), answer
 
@@ -671,7 +684,8 @@ def fetches_0_97():
     two = {b"manifest-md5.txt": BOTH_BY_MD5}
     for octets, files, answer in [
         (z, {}, not_complete("fetch.txt: not in manifest-sha256.txt: data/z")),
-        (z + y + y, two, not_complete("fetch.txt: not in manifest-md5.txt: data/y", "fetch.txt: not in manifest-md5.txt: data/z")),
+        (z + y + y, two, not_complete("fetch.txt: not in manifest-md5.txt: data/y",
+            "fetch.txt: not in manifest-md5.txt: data/z")),
         (z, {**two, b"data/z": b""},
          not_complete("manifest-md5.txt: unlisted: data/z", "fetch.txt: not in manifest-md5.txt: data/z")),
         (a + b"3 data/a.txt\nhttp://example.org/e - data/e.txt\n", half, VALID),
@@ -687,7 +701,8 @@ def fetches_0_97():
 
 def several_tag_files():
     both = {b"bag-info.txt": b"x\n", b"fetch.txt": b"x\n"}
-    yield "two files with a faulty line", tags(both), not_complete("bag-info.txt:1: separator", "fetch.txt:1: separator")
+    yield "two files with a faulty line", tags(both), not_complete(
+        "bag-info.txt:1: separator", "fetch.txt:1: separator")
     files = {b"bag-info.txt": b"Payload-Oxum: 9.9\n x\n:\n", b"tagmanifest-md5.txt": b"?", b"data/z": b""}
     answer = not_complete("bag-info.txt:3: label", "tagmanifest-md5.txt:1: separator")
     yield "faulty lines, which hide the faults of the files", tags(files), answer
@@ -697,13 +712,16 @@ def several_tag_files():
     lines = ["bag-info.txt:3", "fetch.txt:2", "manifest-md5.txt:1", "manifest-sha512.txt:9", "tagmanifest-md5.txt:1"]
     yield "five files with faulty lines", tags(files), not_complete(*[f"{line}: separator" for line in lines])
     gone = b"0" * 32 + b"  data/b\n" + b"0" * 32 + b"  data/B\n"
-    files = empty({b"manifest-md5.txt": gone, b"manifest-sha1.txt": b"".join(b"0" * 40 + line[32:] for line in gone.splitlines(True)),
+    files = empty({b"manifest-md5.txt": gone,
+                   b"manifest-sha1.txt": b"".join(b"0" * 40 + line[32:] for line in gone.splitlines(True)),
                    b"tagmanifest-md5.txt": b"0" * 32 + b" manifest-md5.txt\n" + b"0" * 32 + b" manifest-sha1.txt\n"
                    + b"0" * 32 + b" bag-info.txt"})
     lines = [f"manifest-{alg}.txt: missing: data/{name}" for alg in ("md5", "sha1") for name in "Bb"]
     digests = [f"tagmanifest-md5.txt: digest: manifest-{alg}.txt" for alg in ("md5", "sha1")]
-    yield "missing files, by manifest and path", files, not_complete(*lines, "tagmanifest-md5.txt: missing: bag-info.txt", *digests)
-    files = dict.fromkeys([b"manifest-.txt", b"x/bagit.txt", b"manifest-sha 256.txt", b"readme", b"DATA", b"data.txt", b"data2/a"], b"")
+    yield "missing files, by manifest and path", files, not_complete(*lines,
+        "tagmanifest-md5.txt: missing: bag-info.txt", *digests)
+    files = dict.fromkeys([b"manifest-.txt", b"x/bagit.txt", b"manifest-sha 256.txt", b"readme", b"DATA", b"data.txt",
+        b"data2/a"], b"")
     yield "files without a meaning", tags(files), VALID
 
 
@@ -720,7 +738,8 @@ def limits():
 
 
 if __name__ == "__main__":
-    FAMILIES = (declarations, versions, encodings, names, told_names, other_names, manifests, digests, payloads, infos, oxums,
+    FAMILIES = (declarations, versions, encodings, names, told_names, other_names, manifests, digests, payloads, infos,
+                oxums,
                 info_lines, tag_manifests, fetches, fetch_lines, several_tag_files, limits, manifests_0_97, infos_0_97,
                 paths_0_97, repeats_0_97, tag_manifests_0_97, fetches_0_97)
     sys.exit(judged(sys.argv[1], "small", FAMILIES))

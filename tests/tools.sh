@@ -5,7 +5,7 @@ set -u
 cd "$(dirname -- "$0")/.." || exit 1
 . tests/common.bash
 
-build_first
+take_program
 
 # coreutils_lines FILE: prints the lines of a manifest in the form that coreutils check. Coreutils know only LF as a
 # line end, take two characters after the digest and everything after them as the name, and spell LF, CR and `\` with a
@@ -107,7 +107,8 @@ new crlf
 (cd "$work/crlf" && sums sha256sum | sed 's/$/\r/' >manifest-sha256.txt && sed -i 's/$/\r/' bagit.txt)
 expect 'CR LF at the end of each line' 0 valid ./bag check "$work/crlf"
 new cr
-(cd "$work/cr" && sums sha256sum | tr '\n' '\r' >manifest-sha256.txt && tr '\n' '\r' <bagit.txt >new && mv new bagit.txt)
+(cd "$work/cr" && sums sha256sum | tr '\n' '\r' >manifest-sha256.txt && tr '\n' '\r' <bagit.txt >new \
+    && mv new bagit.txt)
 expect 'CR at the end of each line' 0 valid ./bag check "$work/cr"
 new edited
 (cd "$work/edited" && { printf '\357\273\277\n' && sums sha256sum | sed 's/$/\n/'; } | head -c -2 >manifest-sha256.txt)
@@ -133,6 +134,6 @@ manifest-sha256.txt: digest: data/a.txt
 manifest-sha512.txt: digest: data/a.txt
 complete, not valid" ./bag check "$work/whole"
 
-expect 'random bags' 0 '4000 bags: all judged alike' python3 -B tests/random_bags.py crates/bag_program/out/bag_program 1 4000
+expect 'random bags' 0 '4000 bags: all judged alike' python3 -B tests/random_bags.py "$program" 1 4000
 expect 'the second receiver, on worked cases' 0 '165 worked answers: 0 otherwise' python3 -B tests/worked_answers.py
 finish

@@ -7,7 +7,7 @@ cd "$(dirname -- "$0")/.." || exit 1
 . tests/common.bash
 top=$PWD
 
-build_first
+take_program
 
 # Git keeps no empty directories, so they are removed from the copy too.
 mkdir "$work/fresh"

@@ -4,9 +4,9 @@ set -u
 cd "$(dirname -- "$0")/.." || exit 1
 . tests/common.bash
 
-build_first
+take_program
 if strace -o "$work/calls" true 2>"$work/no strace"; then
-    expect 'two commands at once' 0 '' env TMPDIR="$work" python3 -B tests/two_runs.py crates/bag_program/out/bag_program "$work/tried"
+    expect 'two commands at once' 0 '' env TMPDIR="$work" python3 -B tests/two_runs.py "$program" "$work/tried"
     cat "$work/tried"
 else
     lacking 'two commands at once (strace is not installed, or not permitted)'

@@ -1,7 +1,8 @@
 #!/usr/bin/env python3
-"""worked_answers.py [DRIVER..]: worked cases of a receiver, each with the answer that section 16 of docs/FORMAT.md requires. They are asked
-of tests/reference_receiver.py, and with DRIVER.. of the driver, which reads events from standard input (tests/deliveries.py describes
-them). It prints how many answers are wrong. The digests are those of `abc` and of the empty message.
+"""worked_answers.py [DRIVER..]: worked cases of a receiver, each with the answer that section 16 of docs/FORMAT.md
+requires. They are asked of tests/reference_receiver.py, and with DRIVER.. of the driver, which reads events from
+standard input (tests/deliveries.py describes them). It prints how many answers are wrong. The digests are those of
+`abc` and of the empty message.
 """
 import hashlib
 import subprocess
@@ -134,7 +135,8 @@ def a_large_tag_file_is_told(receiver):
     yield begun(receiver, info), "refused: tag too large bag-info.txt"
     yield begun(receiver, info, OLDER), "refused: tag too large bag-info.txt"
     yield begun(receiver, info, (b"manifest-md5.txt", LONG)), "refused: tag too large bag-info.txt"
-    yield begun(receiver, (b"readme.txt", LARGE), (b"manifest-md5.txt", LONG)), "refused: tag too large manifest-md5.txt"
+    answer = "refused: tag too large manifest-md5.txt"
+    yield begun(receiver, (b"readme.txt", LARGE), (b"manifest-md5.txt", LONG)), answer
     yield begun(receiver, (b"%\n", LARGE)), "refused: tag too large %25%0A"
     yield begun(receiver, (b"x", LARGE), fetch, (b"bagit.txt", b"")), "refused: tag too large fetch.txt"
     yield begun(receiver, (b"bag-info.txt", LONG), (b"fetch.txt", LONG[1:])), "new"
@@ -233,7 +235,8 @@ def contents_past_16_and_64_mebioctets_are_taken(receiver):
 def a_path_of_4097_octets_is_none(receiver):
     one = opened(receiver)
     longest = b"data/" + b"n" * 4091
-    for path, answer in [(longest, "refused: not listed"), (longest + b"n", "refused: path"), (b"n" * 1_000_000, "refused: path")]:
+    for path, answer in [(longest, "refused: not listed"), (longest + b"n", "refused: path"),
+        (b"n" * 1_000_000, "refused: path")]:
         yield one.deliver(b"t1", path, b"abc"), answer
         yield one.read(b"t1", path, b"abc"), answer
         yield one.run(b"t1", [(path, b"abc"), A])[0][0], answer
@@ -315,7 +318,8 @@ def a_ledger_that_is_opened_again_goes_on(receiver):
 
 def a_reader_is_read_to_its_end_before_the_answer(receiver):
     one = opened(receiver)
-    for read, answer in [(one.fail, "refused: reader"), (one.read, "taken"), (one.fail, "refused: reader"), (one.read, "repeated")]:
+    for read, answer in [(one.fail, "refused: reader"), (one.read, "taken"), (one.fail, "refused: reader"),
+        (one.read, "repeated")]:
         yield read(b"t1", *A), answer
     yield one.fail(b"t1", b"data/z", b"x"), "refused: not listed"
 
@@ -357,13 +361,14 @@ def many_files_come_rising_falling_and_damaged(receiver):
 
 
 CHECKS = (names_of_transfers, the_first_bad_tag_path_is_told, a_large_tag_file_is_told,
-          what_is_outside_is_told_where_bagit_txt_reads, what_no_payload_file_can_mend_is_told, a_folder_of_a_path_clashes,
-          other_tag_files_differ, a_length_is_asked_before_a_digest, contents_past_16_and_64_mebioctets_are_taken,
-          a_path_of_4097_octets_is_none, each_length_and_each_digest_is_asked,
-          in_version_0_97_the_manifest_that_lists_a_file_is_asked, what_is_lost_repeated_or_damaged_changes_nothing,
-          another_order_ends_with_the_same_report, a_ledger_that_is_opened_again_goes_on,
-          a_reader_is_read_to_its_end_before_the_answer, a_run_goes_on_after_a_reader_that_failed,
-          a_transfer_of_no_payload_is_valid_at_once, a_run_has_a_million_deliveries, many_files_come_rising_falling_and_damaged)
+          what_is_outside_is_told_where_bagit_txt_reads, what_no_payload_file_can_mend_is_told,
+          a_folder_of_a_path_clashes, other_tag_files_differ, a_length_is_asked_before_a_digest,
+          contents_past_16_and_64_mebioctets_are_taken, a_path_of_4097_octets_is_none,
+          each_length_and_each_digest_is_asked, in_version_0_97_the_manifest_that_lists_a_file_is_asked,
+          what_is_lost_repeated_or_damaged_changes_nothing, another_order_ends_with_the_same_report,
+          a_ledger_that_is_opened_again_goes_on, a_reader_is_read_to_its_end_before_the_answer,
+          a_run_goes_on_after_a_reader_that_failed, a_transfer_of_no_payload_is_valid_at_once,
+          a_run_has_a_million_deliveries, many_files_come_rising_falling_and_damaged)
 
 
 def main(*driver):

@@ -1,0 +1,65 @@
+#!/usr/bin/env bash
+# The script `test`: which parts it runs, what its last line and its status say, and that nothing is skipped where
+# CI=true. The kit and the scripts are stand-ins. And tests/README.md: each script has one row, and no row names a file
+# that is not there.
+set -u
+cd "$(dirname -- "$0")/.." || exit 1
+. tests/common.bash
+
+repository="$work/a repository"
+mkdir -p "$repository"/{tests,kit} "$repository"/crates/bag_{program,driver}/out
+cp test "$repository"
+cp tests/common.bash "$repository/tests"
+# stands_for NAME LINE..: a script of these lines.
+stands_for() {
+    printf '%s\n' '#!/usr/bin/env bash' "${@:2}" >"$repository/$1"
+    chmod +x "$repository/$1"
+}
+stands_for tests/refusals.sh 'exit 0'
+stands_for tests/driven.sh 'set -u' '. tests/common.bash' 'build_driver' 'expect driven 0 "" true' 'finish'
+
+# tested KIT ARGUMENT..: what `test` prints at its end, and its status. KIT is a folder with the kit, or nothing.
+tested() {
+    local status=0
+    env -u CI -u ONLY_BUILT PATH="$1${1:+:}$work/no kit" "$repository/test" "${@:2}" >"$work/all printed" 2>&1 ||
+        status=$?
+    grep -xE '== rt ci|(skipped|FAILED): (tests/|rt ).*|rt is not .*|usage: .*|[0-9]+ passed, .*' "$work/all printed"
+    return "$status"
+}
+# All programs but the kit.
+mkdir "$work/no kit"
+for program in bash env mktemp rm cat sed wc awk nproc date touch xargs printf grep find flock dirname readlink true; do
+    ln -s "$(type -P "$program")" "$work/no kit/$program"
+done
+
+expect 'without the kit' 0 \
+    $'rt is not on PATH: nothing is proved\nskipped: tests/driven.sh\n1 passed, 0 failed, 1 skipped' tested ''
+stands_for kit/rt '[ "$1" = ci ]'
+expect 'with the kit, which builds no driver' 1 $'== rt ci\nFAILED: tests/driven.sh\n2 passed, 1 failed, 0 skipped' \
+    tested "$repository/kit"
+expect 'the scripts alone' 0 $'skipped: tests/driven.sh\n1 passed, 0 failed, 1 skipped' tested "$repository/kit" scripts
+stands_for tests/refusals.sh 'exit 1'
+expect 'a script that fails' 1 $'skipped: tests/driven.sh\nFAILED: tests/refusals.sh\n0 passed, 1 failed, 1 skipped' \
+    tested '' scripts
+stands_for kit/rt 'exit 1'
+expect 'a gate that fails: no script is run' 1 $'== rt ci\nFAILED: rt ci\n0 passed, 1 failed, 0 skipped' \
+    tested "$repository/kit"
+expect 'another word' 64 'usage: ./test [scripts]' tested "$repository/kit" others
+demanded() {
+    env CI=true PATH="$work/no kit" "$repository/test" 2>&1 | sed -n '$p'
+}
+expect 'CI=true without the kit' 0 '0 passed, 1 failed, 0 skipped' demanded
+
+# rows: the scripts that have a row of tests/README.md, each as often as it has one.
+rows() {
+    sed -n 's/^| `\([^`]*\.sh\)` |.*/tests\/\1/p' tests/README.md | LC_ALL=C sort
+}
+# named_only: the files that its rows name, and that are not there.
+named_only() {
+    sed -n '/^|/p' tests/README.md | grep -oE '`[^ `/]+\.[a-z]+`' | tr -d '`' | while read -r name; do
+        [ -f "tests/$name" ] || echo "$name"
+    done
+}
+expect 'each script has one row' 0 "$(printf '%s\n' tests/*.sh | LC_ALL=C sort)" rows
+expect 'no row names a file that is not there' 0 '' named_only
+finish
