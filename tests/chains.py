@@ -6,14 +6,14 @@ A bag that is written with holes. The driver writes it (tests/new_bags.py descri
 and its payload files come in some order, repeated, damaged and late. The holes are filled by deliveries, or by `fetch`
 from a folder. Then the bag is valid, it is exported, and the export is compared with what was written, file by file,
 and is judged by `check` and by coreutils. In between the work stops: the driver at every STRIDEth call (17) of each
-file of the database (tests/crashes.py describes how), and the program by a kill between two folders.
+file of the database (tests/ledger.py describes how), and the program by a kill between two folders.
 
 A ledger that is released and adopted again, three times in a row, with deliveries to two transfers before, in between
 and after. Each time both transfers are reported, audited and exported.
 
 Both happen over a keeper in memory, over a database in memory, and over databases in files; in memory nothing is
-fetched or exported. What is written is that of tests/new_bags.py. Each answer is that of tests/reference_receiver.py
-and tests/reference_commands.py, and sqlite3 reads what a ledger in a file holds.
+fetched or exported. What is written is that of tests/new_bags.py. Each answer is that of tests/model/reference_receiver.py
+and tests/model/reference_commands.py, and sqlite3 reads what a ledger in a file holds.
 """
 import itertools
 import os
@@ -27,7 +27,7 @@ import types
 
 import new_bags
 import reference_commands
-from crashes import answered, found, known, ledger_of, run, steps
+from ledger import answered, found, known, ledger_of, run, steps
 from deliveries import answer, line
 from explaining import is_explained
 from left_logs import HeldUp

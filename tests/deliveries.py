@@ -1,6 +1,6 @@
 #!/usr/bin/env python3
 """deliveries.py COUNT SEED DRIVER: makes COUNT random lists of deliveries, has the driver answer them all in one
-process, and compares its output with the answers of tests/reference_receiver.py. The same seed makes the same lists.
+process, and compares its output with the answers of tests/model/reference_receiver.py. The same seed makes the same lists.
 The first answer that differs is reported with its list. Without DRIVER it prints the lists as the driver reads them,
 and with `--answers` in its place the expected output.
 

@@ -1,8 +1,8 @@
 #!/usr/bin/env python3
 """feeds.py COUNT SEED DRIVER: worked texts of tag files in pieces; and the tag files of every example and of the first
-COUNT random bags of tests/random_bags.py, each cut at every place, or at 64 random ones if it is longer than 256
+COUNT random bags of tests/lib/random_bags.py, each cut at every place, or at 64 random ones if it is longer than 256
 octets, and in several pieces. The driver reads each text whole and from its pieces, which have to agree, also with
-tests/reference.py. The same seed makes the same texts. The first that is read otherwise is printed.
+tests/model/reference.py. The same seed makes the same texts. The first that is read otherwise is printed.
 
 The driver reads lines of standard input, each a word with its fields after one blank each:
 

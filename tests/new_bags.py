@@ -2,7 +2,7 @@
 """new_bags.py COUNT SEED PROGRAM DRIVER..: has the driver write chosen bags and COUNT random ones, in one process, and
 compares its answers and each file with what is made here, using only section 17 of docs/FORMAT.md and hashlib. Then
 each bag is put in a folder, where coreutils check each line of its manifests that they can spell, and the program and
-tests/reference.py judge it. The same seed makes the same bags. The first answer that differs is reported with its
+tests/model/reference.py judge it. The same seed makes the same bags. The first answer that differs is reported with its
 lines.
 
 The driver reads lines from standard input, and prints a line for each. Each is a word followed by its fields, each
@@ -359,7 +359,7 @@ class Judges:
     def judged_otherwise(self, folder, files, lines, status):
         """Judges it with the second program, and with `bag check` if the bag is in a folder."""
         if Held(files).judge() != (lines, status):
-            return f"tests/reference.py says {Held(files).judge()} instead of {lines}"
+            return f"tests/model/reference.py says {Held(files).judge()} instead of {lines}"
         if folder is None:
             return None
         ran = subprocess.run([self.program, "check", folder], capture_output=True, timeout=60, check=False)

@@ -1,6 +1,6 @@
 #!/usr/bin/env python3
 """random_commands.py PROGRAM COUNT SEED [NUMBER]: makes COUNT runs of 8 to 20 random commands of the program on ledgers
-and folders. It compares each line and status with those of tests/reference_commands.py, each folder that a command
+and folders. It compares each line and status with those of tests/model/reference_commands.py, each folder that a command
 makes, octet by octet, and after each run each ledger as sqlite3 reads it. The same seed makes the same runs; with
 NUMBER only that run is made. A run that differs is reported with its commands, and its folder is kept.
 """

@@ -1,6 +1,6 @@
 #!/usr/bin/env python3
 """random_ledgers.py PROGRAM DRIVER [SECONDS [SEED [TRIED [NUMBER..]]]]: makes random ledgers in files, and has the
-program open them. `list`, `report` and `audit` must answer as tests/reference_commands.py does, so no ledger may be
+program open them. `list`, `report` and `audit` must answer as tests/model/reference_commands.py does, so no ledger may be
 refused, and sqlite3 reads what each ledger holds, octet by octet.
 
 It makes ledgers until SECONDS (60) have passed, but not less than 40, and writes the seed and what was tried to TRIED,
@@ -10,7 +10,7 @@ ledgers are made.
 A ledger has up to three transfers, and one in 40 has 300. Their names and paths have characters of every kind, and
 their files are empty, have a piece, a part of one, or several. Payload files come in any order, damaged, repeated,
 unlisted, and from readers that fail. Most ledgers are made by the driver, in up to three sittings, some of which are
-stopped at a call of a file of the database (tests/crashes.py describes how). The others are made by commands of the
+stopped at a call of a file of the database (tests/ledger.py describes how). The others are made by commands of the
 program, some of which are killed once the log of the ledger has grown. A ledger is opened after each sitting, and after
 some commands.
 """
@@ -30,7 +30,7 @@ import time
 import new_bags
 import reference_commands
 from chains import Ledger, damaged
-from crashes import NEVER, answered, found, known, ledger_of, run, steps
+from ledger import NEVER, answered, found, known, ledger_of, run, steps
 from explaining import is_explained
 from reopened import Transfer
 

@@ -1,10 +1,10 @@
 #!/usr/bin/env python3
 """refusals.py [--all] DRIVER PROGRAM LIBRARY: lists of calls, each a case that docs/FORMAT.md decides
-(tests/refusal_lists.py), in which one request for memory is refused, the first, the second and so on, by a library that
-is loaded before the driver's own (tests/no_memory.c); and in which one call of a device fails, the first, the second
+(tests/data/refusal_lists.py), in which one request for memory is refused, the first, the second and so on, by a library that
+is loaded before the driver's own (tests/lib/no_memory.c); and in which one call of a device fails, the first, the second
 and so on, of its trees, sinks, readers, couriers, suppliers, keepers and writers, by a count in the driver. Each call
 of the driver is a line, so that it is known which call met the refusal, and all answers are judged
-(tests/refused_calls.py). Each list goes on with calls that ask for what is held, before the ledger is opened again and
+(tests/model/refused_calls.py). Each list goes on with calls that ask for what is held, before the ledger is opened again and
 after it. They are run over a map in memory, over a database in memory and over one in two files in memory, and over a
 map whose calls fail. A call of a file fails alone, or it and all that follow until the ledger is opened again, which
 leaves what was written or only what a sync had reached; and sqlite3 reads what is left. Of a list over files that isn't

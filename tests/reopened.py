@@ -1,7 +1,7 @@
 #!/usr/bin/env python3
 """reopened.py COUNT SEED DRIVER..: makes COUNT random ledgers in databases, leaves each of them several times, and
 opens it again, which reads and verifies all of it. All answers, before and after, are compared with those of
-tests/reference_receiver.py, and the first that differs is reported with its ledger. DRIVER.. reads the events from
+tests/model/reference_receiver.py, and the first that differs is reported with its ledger. DRIVER.. reads the events from
 standard input (see tests/deliveries.py). The same seed makes the same ledgers.
 
 A ledger has up to three transfers, and one in 250 has 300. Their names and paths have characters of every kind, their

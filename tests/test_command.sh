@@ -4,19 +4,19 @@
 # that is not there.
 set -u
 cd "$(dirname -- "$0")/.." || exit 1
-. tests/common.bash
+. tests/lib/common.bash
 
 repository="$work/a repository"
-mkdir -p "$repository"/{tests,kit} "$repository"/crates/bag_{program,driver}/out
+mkdir -p "$repository"/{tests/lib,kit} "$repository"/crates/bag_{program,driver}/out
 cp test "$repository"
-cp tests/common.bash "$repository/tests"
+cp tests/lib/common.bash "$repository/tests/lib"
 # stands_for NAME LINE..: a script of these lines.
 stands_for() {
     printf '%s\n' '#!/usr/bin/env bash' "${@:2}" >"$repository/$1"
     chmod +x "$repository/$1"
 }
 stands_for tests/refusals.sh 'exit 0'
-stands_for tests/driven.sh 'set -u' '. tests/common.bash' 'build_driver' 'expect driven 0 "" true' 'finish'
+stands_for tests/driven.sh 'set -u' '. tests/lib/common.bash' 'build_driver' 'expect driven 0 "" true' 'finish'
 
 # tested KIT ARGUMENT..: what `test` prints at its end, and its status. KIT is a folder with the kit, or nothing.
 tested() {
@@ -56,7 +56,7 @@ rows() {
 }
 # named_only: the files that its rows name, and that are not there.
 named_only() {
-    sed -n '/^|/p' tests/README.md | grep -oE '`[^ `/]+\.[a-z]+`' | tr -d '`' | while read -r name; do
+    sed -n '/^|/p' tests/README.md | grep -oE '`[^ `]+\.[a-z]+`' | tr -d '`' | while read -r name; do
         [ -f "tests/$name" ] || echo "$name"
     done
 }

@@ -1,6 +1,6 @@
 #!/usr/bin/env python3
 """random_bags.py PROGRAM SEED NUMBER: makes NUMBER small bags, whole and damaged, of versions 1.0 and 0.97 in turn, and
-compares the output and the status of `PROGRAM check` for each with tests/reference.py. The same seed makes the same
+compares the output and the status of `PROGRAM check` for each with tests/model/reference.py. The same seed makes the same
 bags. A bag that is judged differently is kept and its name is printed.
 """
 import hashlib

@@ -1,6 +1,6 @@
 #!/usr/bin/env python3
 """A second implementation of the receiver of transfers, written only from docs/FORMAT.md; it uses the rules of
-tests/reference.py. tests/deliveries.py compares the two, and tests/worked_answers.py has worked cases for both.
+tests/model/reference.py. tests/deliveries.py compares the two, and tests/data/worked_answers.py has worked cases for both.
 
 The numbers in brackets are sections of docs/FORMAT.md. Names, paths and contents are octets; an answer is the text of
 its line.

@@ -1,5 +1,5 @@
 """Judges the answers to a list of calls, in which one request for memory may have been refused, or one call of a device
-may have failed. It was written from docs/FORMAT.md, with the second programs for it (tests/reference.py,
+may have failed. It was written from docs/FORMAT.md, with the second programs for it (tests/model/reference.py,
 reference_receiver.py, new_bags.py, feeds.py). What a refusal may do is this: the call that met it answers what is due,
 or that it was refused, and then nothing has changed; all other calls answer what is due for what is held. After a
 failure of its store a ledger answers nothing else until it is opened again, and then the call in which the store failed
@@ -20,7 +20,7 @@ import feeds
 import new_bags
 import reference
 import reference_receiver
-from crashes import known, ledger_of, rows
+from ledger import known, ledger_of, rows
 from reference_receiver import Refused, printed
 from small_bags import DECLARATION
 

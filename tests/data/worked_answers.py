@@ -1,6 +1,6 @@
 #!/usr/bin/env python3
 """worked_answers.py [DRIVER..]: worked cases of a receiver, each with the answer that section 16 of docs/FORMAT.md
-requires. They are asked of tests/reference_receiver.py, and with DRIVER.. of the driver, which reads events from
+requires. They are asked of tests/model/reference_receiver.py, and with DRIVER.. of the driver, which reads events from
 standard input (tests/deliveries.py describes them). It prints how many answers are wrong. The digests are those of
 `abc` and of the empty message.
 """

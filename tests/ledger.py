@@ -1,5 +1,5 @@
 #!/usr/bin/env python3
-"""crashes.py DRIVER TRIED: stops work on a ledger before each call of each of the two files of its database, and judges
+"""ledger.py DRIVER TRIED: stops work on a ledger before each call of each of the two files of its database, and judges
 what is left. What was tried is written to TRIED.
 
 The driver is run as `DRIVER stop FILE CALLS HOW SEED DATABASE`. It opens the ledger in the database or makes one,
@@ -11,7 +11,7 @@ the log.
 
 The work opens three transfers, and puts payload files by readers, in runs, from couriers and from suppliers. Its steps
 are that the ledger is made, that a transfer is opened, and each delivery. After a stop sqlite3 reads what is left, file
-by file and octet by octet. tests/reference_receiver.py says what there is after each step: it must be what there was
+by file and octet by octet. tests/model/reference_receiver.py says what there is after each step: it must be what there was
 after the last step that was answered, or after the next one. Then the same work is given again, without a stop; each
 answer is that of the second program, and all transfers are valid, also if they are audited. In the same way the opening
 of ledgers that were closed, killed or cut off is stopped, which must leave them as they were; and the opening of a

@@ -5,7 +5,7 @@ one command, spread over all, and for the last allocations of a new ledger; 0 fo
 
 After each run the answer is the normal one, or it names what failed. What was answered is held, as sqlite3 reads it,
 and nothing else except what failed. Then the same command and a report, with nothing failing, answer as
-tests/reference_commands.py does for what is held. At the end it prints how many commands were run and how often one
+tests/model/reference_commands.py does for what is held. At the end it prints how many commands were run and how often one
 failed.
 """
 import collections
