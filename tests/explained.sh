@@ -134,7 +134,7 @@ for words in "begin LEDGER t1 examples/first-bag" "intake LEDGER t1 examples/fir
     expect "${words%% *}: a ledger that was cut short stays" 0 '' cmp "$work/short" <(head -c 20000 "$work/ledger")
 done
 python3 -B -c \
-    'import sys; from first_format import write_first; write_first(sys.argv[1], {"t1": {"data/b": b"b"}})' "$work/taken"
+    'import sys; from ledger_files import write_first; write_first(sys.argv[1], {"t1": {"data/b": b"b"}})' "$work/taken"
 python3 -c \
     'import sqlite3, sys; sqlite3.connect(sys.argv[1]).executescript("CREATE TABLE held (id INTEGER PRIMARY KEY)")' \
     "$work/taken"
@@ -474,7 +474,7 @@ bag: $work/disk/ledger: database or disk is full" next_on_disk
     explain 'a refusal on a full disk' 1 "bag: $work/disk/ledger: its log stays beside it, and both have to be kept together: \
 database or disk is full" refused_on_disk
     python3 -B -c \
-        'import sys; from first_format import write_first
+        'import sys; from ledger_files import write_first
 write_first(sys.argv[1], {"t1": {"data/b": bytes(60_000)}})' \
         "$work/first"
     first_on_disk() {

@@ -10,7 +10,7 @@ expect 'ledgers of format 1' 0 "$tried" env TMPDIR="$work" python3 -B tests/firs
 
 # write_first FILE: makes a ledger of format 1 with one transfer, t1.
 write_first() {
-    python3 -B -c 'import sys; import first_format as f; f.write_first(sys.argv[1], {"t1": f.THREE})' "$1"
+    python3 -B -c 'import sys; from ledger_files import SMALL, write_first; write_first(sys.argv[1], {"t1": SMALL})' "$1"
 }
 
 # A ledger that may not be written, or whose log may not be made, stays what it was.

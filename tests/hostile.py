@@ -4,13 +4,12 @@ tests/data/small_bags.py, or the hostile ones of tests/data/hostile_bags.py.
 """
 import os
 import shutil
-import subprocess
 import sys
 import tempfile
 
 import hostile_bags
 import small_bags
-from explaining import is_explained
+from running import is_answered, run
 
 KINDS = {"small": small_bags.FAMILIES, "hostile": hostile_bags.FAMILIES}
 
@@ -34,11 +33,10 @@ def main(kind, program):
             tried += 1
             folder = tempfile.mkdtemp()
             write(folder, files)
-            told = subprocess.run([program, "check", folder], capture_output=True, timeout=100, check=False)
-            printed = told.stdout.decode().splitlines()
-            if (printed, told.returncode) != (lines, status) or not is_explained(lines, status, told.stderr):
+            ran = run([program, "check", folder], timeout=100)
+            if not is_answered(ran, lines, status):
                 failed += 1
-                print(f"{name}: status {told.returncode}: {printed} instead of status {status}: {lines}")
+                print(f"{name}: status {ran.returncode}: {ran.stdout + ran.stderr} instead of status {status}: {lines}")
             shutil.rmtree(folder)
     print(f"{tried} {kind} bags: {failed} answered differently")
     return 1 if failed or not tried else 0

@@ -628,7 +628,7 @@ bag: $work/longer ledger: disk I/O error
     expect 'calls on a ledger that fail: intake' 0 $'taken data/a.txt\ntaken data/e.txt' \
         "$program" intake "$work/begun" t1 examples/first-bag
     expect 'calls on a ledger that fail: one of format 1' 0 '' python3 -B -c \
-        'import sys; from first_format import THREE, write_first; write_first(sys.argv[1], {"t1": THREE})' "$work/older"
+        'import sys; from ledger_files import SMALL, write_first; write_first(sys.argv[1], {"t1": SMALL})' "$work/older"
     for found in begun older; do
         expect "each read of a ledger that fails: list, $found" 0 '' \
             each_of "$found" pread64 EIO 'disk I/O error' list "$work/committed"

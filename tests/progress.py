@@ -19,7 +19,8 @@ import sys
 import tempfile
 import tty
 
-from first_format import write_first
+from ledger_files import write_first
+from running import run
 
 DECLARATION = b"BagIt-Version: 1.0\nTag-File-Character-Encoding: UTF-8\n"
 MEBIBYTE = 1 << 20
@@ -94,7 +95,7 @@ class Place:
     def run(self, *words):
         """The command without a terminal."""
         self.count += 1
-        done = subprocess.run([self.program, *words], stdin=subprocess.DEVNULL, capture_output=True, timeout=300)
+        done = run([self.program, *words], timeout=300)
         return Ended(done.returncode, done.stdout, done.stderr)
 
     def watch(self, *words, output=None, stop=False, limit=None):

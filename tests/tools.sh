@@ -134,6 +134,6 @@ manifest-sha256.txt: digest: data/a.txt
 manifest-sha512.txt: digest: data/a.txt
 complete, not valid" ./bag check "$work/whole"
 
-expect 'random bags' 0 '4000 bags: all judged alike' python3 -B tests/lib/random_bags.py "$program" 1 4000
+expect 'random bags' 0 '4000 bags: all judged alike' python3 -B tests/tools.py "$program" 1 4000
 expect 'the second receiver, on worked cases' 0 '165 worked answers: 0 otherwise' python3 -B tests/data/worked_answers.py
 finish

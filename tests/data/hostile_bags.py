@@ -309,5 +309,5 @@ def many_0_97():
         text), answer
 
 
-FAMILIES = (cuts_of_declaration, cuts_of_manifest, endings_and_marks, names, long_lines, numerals, payload_directory, limits,
-            limits_beside_faults, pieces, names_0_97, long_paths_0_97, blanks_0_97, many_0_97)
+FAMILIES = (cuts_of_declaration, cuts_of_manifest, endings_and_marks, names, long_lines, numerals, payload_directory,
+            limits, limits_beside_faults, pieces, names_0_97, long_paths_0_97, blanks_0_97, many_0_97)
