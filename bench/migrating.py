@@ -17,8 +17,8 @@ import tempfile
 
 from check import DIGESTS, PIECE, PROGRAM, TOP, run
 
-sys.path.append(str(TOP / "tests"))
-from first_format import write_first  # noqa: E402
+sys.path.append(str(TOP / "tests/lib"))
+from ledger_files import write_first  # noqa: E402
 
 LEDGERS = ((20_000, 2_048), (4_096, 65_536), (16, 16 << 20), (64, 16 << 20))
 

@@ -3,7 +3,7 @@
 # and status. The program and the kit are stand-ins.
 set -u
 cd "$(dirname -- "$0")/.." || exit 1
-. tests/common.bash
+. tests/lib/common.bash
 
 # A repository of two crates, and two that aren't part of the program. The stand-in for rt makes a program that
 # prints its arguments, one per line.

@@ -6,32 +6,31 @@ A bag that is written with holes. The driver writes it (tests/new_bags.py descri
 and its payload files come in some order, repeated, damaged and late. The holes are filled by deliveries, or by `fetch`
 from a folder. Then the bag is valid, it is exported, and the export is compared with what was written, file by file,
 and is judged by `check` and by coreutils. In between the work stops: the driver at every STRIDEth call (17) of each
-file of the database (tests/crashes.py describes how), and the program by a kill between two folders.
+file of the database (tests/ledger.py describes how), and the program by a kill between two folders.
 
 A ledger that is released and adopted again, three times in a row, with deliveries to two transfers before, in between
 and after. Each time both transfers are reported, audited and exported.
 
 Both happen over a keeper in memory, over a database in memory, and over databases in files; in memory nothing is
-fetched or exported. What is written is that of tests/new_bags.py. Each answer is that of tests/reference_receiver.py
-and tests/reference_commands.py, and sqlite3 reads what a ledger in a file holds.
+fetched or exported. What is written is that of tests/model/reference_writer.py. Each answer is that of
+tests/model/reference_receiver.py and tests/model/reference_commands.py, and sqlite3 reads what a ledger in a file
+holds.
 """
 import itertools
 import os
 import pathlib
 import random
 import shutil
-import subprocess
 import sys
 import tempfile
-import types
 
-import new_bags
-import reference_commands
-from crashes import answered, found, known, ledger_of, run, steps
-from deliveries import answer, line
-from explaining import is_explained
-from left_logs import HeldUp
-from reference_receiver import Receiver
+import written_bags
+from compared import Ledger, damaged
+from events import answer, answered, run_driver, steps, with_files
+from ledger_rows import found
+from reference_receiver import Receiver, known
+from reference_writer import ALGORITHMS, Order, verdict
+from running import ask, line
 
 PIECE = 65_536
 NAMES = [b"first", b"second"]
@@ -42,10 +41,10 @@ class Bag:
 
     def __init__(self, driver, folder, order):
         self.order = order
-        printed, status, said = new_bags.written([("", order)], [driver, "calls", "map"])
+        printed, status, said = written_bags.written([("", order)], [driver, "calls", "map"])
         with printed:
             assert (status, said) == (0, b""), (status, said)
-            assert new_bags.difference([("the bag", order)], printed) is None
+            assert written_bags.difference([("the bag", order)], printed) is None
             printed.seek(0)
             parts = printed.read().split("\n")[-2].split(" | ")
         files = dict(map(bytes.fromhex, text.split(" ")) for text in parts[2:])
@@ -55,23 +54,15 @@ class Bag:
         self.whole = {**self.tags, **order.payload}
         self.folder, self.supplier = put(folder / "written", files), put(folder / "supplier", self.holes)
         # What a report says as long as the holes, and nothing else, are missing.
-        self.lines_with_holes = new_bags.verdict(order)[0]
+        self.lines_with_holes = verdict(order)[0]
 
     def begin(self, name):
-        return event("begin", name, self.tags.items())
-
-
-def event(word, name, files):
-    return (word, name, *(field for file in files for field in file))
+        return with_files("begin", name, self.tags.items())
 
 
 def put(folder, files):
-    assert new_bags.put(os.fsencode(folder), files), folder
+    assert written_bags.put(os.fsencode(folder), files), folder
     return folder
-
-
-def damaged(octets):
-    return octets[:-1] + bytes([octets[-1] ^ 1]) if octets else b"x"
 
 
 def contents(seed):
@@ -85,15 +76,15 @@ def contents(seed):
 def orders_with_holes():
     """One hole, and more of them."""
     more = ["data/zero", "data/100%", "data/a", "data/deep/er"]
-    for algorithms, paths in ((["sha256"], ["data/z"]), (new_bags.ALGORITHMS, more)):
+    for algorithms, paths in ((["sha256"], ["data/z"]), (ALGORITHMS, more)):
         holes = [(path, f"http://example.org/{place}") for place, path in enumerate(paths)]
-        yield new_bags.Order(contents(1), algorithms, [("Contact-Name", "Ada\nBen"), ("A", "")], holes)
+        yield Order(contents(1), algorithms, [("Contact-Name", "Ada\nBen"), ("A", "")], holes)
 
 
 def whole_orders():
     """Two without holes, which have the same paths and mostly other contents."""
     for seed, algorithms in ((2, ["sha256"]), (3, ["md5", "sha512"])):
-        yield new_bags.Order(contents(seed), algorithms)
+        yield Order(contents(seed), algorithms)
 
 
 def arrival(bag, name, seed):
@@ -104,10 +95,10 @@ def arrival(bag, name, seed):
         bag.begin(name),
         ("report", name),
         ("read", name, *wrong),
-        event("run", name, [twice, others[0], twice, wrong, (b"data/none", b""), *others[1:]]),
+        with_files("run", name, [twice, others[0], twice, wrong, (b"data/none", b""), *others[1:]]),
         ("break", name, *late),
         ("report", name),
-        event("bring-first", name, [late, others[0], late]),
+        with_files("bring-first", name, [late, others[0], late]),
         ("report", name),
     ]
 
@@ -124,9 +115,8 @@ def in_memory(driver, events, tried):
     """Has both keepers in memory answer a list. Returns the answers, which are those of the second program."""
     receiver = Receiver()
     wanted = [answer(receiver, *one) for one in events]
-    asked = "".join(f"{line(one)}\n" for one in [("start",), *events]).encode()
     for keeper in ("map", "sqlite"):
-        ran = subprocess.run([driver, "calls", keeper], input=asked, capture_output=True, timeout=600, check=False)
+        ran = ask([driver, "calls", keeper], map(line, [("start",), *events]))
         assert ran.stdout.decode().split("\n") == ["started", *wanted, ""], (keeper, ran.stdout, wanted)
         assert not ran.stderr and ran.returncode == 0, (keeper, ran)
         tried["lists"] += 1
@@ -141,69 +131,6 @@ def holes_in_memory(driver, bag, tried):
     wanted = in_memory(driver, events, tried)
     assert wanted[len(come) - 1] == " | ".join(bag.lines_with_holes), wanted
     assert wanted[-2:] == ["valid", "valid"], wanted
-
-
-class Ledger:
-    """A ledger in a file, and what it has to hold. Each command on it is answered as by the second program."""
-
-    def __init__(self, program, file, receiver):
-        self.program, self.file, self.commands = program, file, reference_commands.Commands()
-        self.key = os.path.realpath(os.fsencode(file))
-        self.commands.receivers[self.key] = receiver
-
-    def receiver(self):
-        return self.commands.receivers[self.key]
-
-    def words(self, command, *operands):
-        return [os.fsencode(word) for word in (command, "--", self.file, *operands)]
-
-    def run(self, command, *operands):
-        """The lines."""
-        return self.compare(self.words(command, *operands)).lines
-
-    def compare(self, words):
-        wanted = self.commands.answer(words)
-        ran = subprocess.run([self.program, *words], capture_output=True, timeout=120, check=False)
-        assert ran.stdout.decode().split("\n") == [*wanted.lines, ""], (words, ran, wanted.lines)
-        assert is_explained(wanted.lines, wanted.status, ran.stderr), (words, ran)
-        assert ran.returncode == wanted.status, (words, ran, wanted.status)
-        return wanted
-
-    def judge(self):
-        """sqlite3 finds what has to be held, and nothing else."""
-        assert found(self.file) == ledger_of(self.receiver())
-
-    def kill(self, command, name, first, *others):
-        """Kills a command once its work on the first folder is done, and before it has printed anything about it."""
-        HeldUp(types.SimpleNamespace(program=self.program), *self.words(command, name, first, *others)).kill()
-        self.commands.answer(self.words(command, name, first))
-        self.judge()
-
-    def export(self, name, folder, tried):
-        """Exports the transfer, and compares what there is with what it has to hold. Returns the files."""
-        made = self.compare(self.words("export", name, folder)).made
-        assert reference_commands.found_in(os.fsencode(folder)) == reference_commands.folder_of(made), folder
-        tried["exports"] += 1
-        return made
-
-    def finish(self, name, bag, folder, tried):
-        """The transfer has to be valid. It is exported as the bag that was written, which has to be valid too."""
-        for command in ("report", "audit"):
-            assert self.run(command, name) == ["valid"]
-        assert self.export(name, folder, tried) == bag.whole
-        assert self.compare([b"check", os.fsencode(folder)]).lines == ["valid"]
-        by_coreutils(folder, bag, tried)
-        shutil.rmtree(folder)
-
-
-def by_coreutils(folder, bag, tried):
-    """Coreutils find the digests that the manifests list, those of the holes too."""
-    for algorithm in bag.order.algorithms:
-        for name in (f"manifest-{algorithm}.txt", f"tagmanifest-{algorithm}.txt"):
-            lines = (folder / name).read_bytes().splitlines(True)
-            plain = [text for text in lines if new_bags.fits_coreutils(text)]
-            assert plain and new_bags.accepted_by_coreutils(folder, algorithm, plain), (folder, name)
-            tried["digests"] += len(plain)
 
 
 def fill_by_fetch(ledger, name, bag, folder, tried):
@@ -236,7 +163,7 @@ def holes_in_files(program, driver, bag, folder, stride, tried):
     for place, (file, how) in enumerate(itertools.product(("log", "database"), ("cut", "killed"))):
         for calls in itertools.count(place, stride):
             database = folder / "ledger"
-            printed = run(driver, database, events, (file, calls, how))
+            printed = run_driver(driver, database, events, (file, calls, how))
             number = answered(events, printed, wanted)
             left = found(database)
             assert left in states[number : number + 2], (file, calls, how, number)
@@ -285,9 +212,9 @@ def one_round(bag, name, place):
     return [
         *([bag.begin(name)] if place > 0 or name == NAMES[0] else []),
         ("deliver", name, some[0][0], damaged(some[0][1])),
-        event("run", name, some if place < 3 else files),
+        with_files("run", name, some if place < 3 else files),
         ("break", name, *other),
-        event("run", name, [some[-1], (b"data/none", b"x")]),
+        with_files("run", name, [some[-1], (b"data/none", b"x")]),
         ("report", name),
         ("audit", name),
         ("names",),
@@ -309,8 +236,8 @@ def released_in_files(program, driver, whole, folder, tried):
     ledger = Ledger(program, database, receiver)
     for place, events in enumerate(rounds(whole)):
         wanted = [answer(receiver, *one) for one in events]
-        assert run(driver, database, events) == ["opened", *wanted, "closed"], (place, wanted)
-        assert run(driver, database, []) == ["opened", "closed"], place
+        assert run_driver(driver, database, events) == ["opened", *wanted, "closed"], (place, wanted)
+        assert run_driver(driver, database, []) == ["opened", "closed"], place
         ledger.judge()
         tried["adopted"] += 1
         ledger.run("list")

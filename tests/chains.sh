@@ -3,7 +3,7 @@
 # exported and checked; and ledgers that are released and adopted again.
 set -u
 cd "$(dirname -- "$0")/.." || exit 1
-. tests/common.bash
+. tests/lib/common.bash
 
 take_program
 build_driver

@@ -11,92 +11,13 @@ import os
 import pathlib
 import shutil
 import sqlite3
-import subprocess
 import sys
 import tempfile
 
-from explaining import run_limited
-
-PIECE = 65_536
-DECLARATION = b"BagIt-Version: 1.0\nTag-File-Character-Encoding: UTF-8\n"
-URL = "http://example.org/"
-
-
-def tables():
-    """The texts of the tables of a ledger, as FORMAT.md has them, but for blanks."""
-    text = (pathlib.Path(__file__).parent.parent / "docs/FORMAT.md").read_text(encoding="utf-8")
-    block = text.partition("```sql\n")[2].partition("```")[0]
-    return sorted("CREATE TABLE " + " ".join(part.split()) for part in block.split("CREATE TABLE ")[1:])
-
-
-TABLES = tables()
-
-
-class Place:
-    """A folder with a ledger, next to the folders that the commands are given."""
-
-    def __init__(self, program, work, contents, fetched=()):
-        self.program, self.work, self.ledger = program, work, work / "at" / "ledger"
-        self.ledger.parent.mkdir(parents=True)
-        self.contents, self.bag, self.exports = contents, work / "bag", 0
-        lines = "".join(f"{hashlib.sha256(octets).hexdigest()}  {path.replace('%', '%25')}\n"
-            for path, octets in contents.items())
-        self.tags = {"bagit.txt": DECLARATION, "manifest-sha256.txt": lines.encode()}
-        if fetched:
-            self.tags["fetch.txt"] = "".join(f"{URL}{path} - {path}\n" for path in fetched).encode()
-        for path, octets in {**self.tags, **contents}.items():
-            (self.bag / path).parent.mkdir(parents=True, exist_ok=True)
-            (self.bag / path).write_bytes(octets)
-
-    def run(self, *words, limit=None):
-        return run_limited([self.program, *words], limit)
-
-    def words(self, command):
-        """The arguments of a command on the ledger and its transfer t1, with a new folder to export to."""
-        self.exports += 1
-        folders = {"begin": [self.bag], "intake": [self.bag], "fetch": [self.bag],
-            "export": [self.work / f"out{self.exports}"]}
-        name = [] if command == "list" else ["t1"]
-        return [command, self.ledger, *name, *folders.get(command, [])]
-
-    def there(self):
-        """What is in the folder of the ledger: each file with its digest, and the folders."""
-        digest = lambda file: hashlib.sha256(file.read_bytes()).hexdigest()
-        beside = {file.name: (file.lstat().st_mode, file.is_file() and digest(file))
-            for file in self.ledger.parent.iterdir()}
-        return beside, sorted(file.name for file in self.work.iterdir())
-
-    def refuses(self, *lines, but=()):
-        """Each command except those prints exactly one of these lines, with status 3, and changes nothing."""
-        before = self.there()
-        for command in ALL:
-            if command not in but:
-                found = self.run(*self.words(command))
-                assert found in [(3, [line]) for line in lines], (command, found, lines)
-                assert self.there() == before, (command, lines, self.there(), before)
-
-    def sql(self, text):
-        database = sqlite3.connect(self.ledger)
-        rows = database.execute(text).fetchall()
-        database.close()
-        return rows
-
-
-    def changed(self, text):
-        """The answer of `list` after this change, which is in the file and not in its log. If it is refused, the file
-        stays."""
-        database = sqlite3.connect(self.ledger)
-        database.executescript(text)
-        database.execute("PRAGMA wal_checkpoint(TRUNCATE)")
-        database.close()
-        before = self.ledger.read_bytes()
-        found = self.run("list", self.ledger)
-        assert found[0] == 0 or self.ledger.read_bytes() == before, text
-        return found
-
-
-ALL = ["begin", "intake", "report", "audit", "fetch", "export", "list"]
-SMALL = {"data/a.txt": b"abc", "data/e.txt": b""}
+import ledger_files
+from damaged_ledgers import DAMAGES, TOO_LARGE
+from ledger_files import DECLARATION, PIECE, SMALL, TABLES
+from places import ALL, Place
 
 
 def no_ledgers(make):
@@ -153,55 +74,12 @@ def no_ledgers(make):
     return 11
 
 
-LOCK = """
-import sqlite3, sys
-other = sqlite3.connect(sys.argv[1], isolation_level=None)
-for text in ("PRAGMA locking_mode = EXCLUSIVE", "BEGIN EXCLUSIVE", "SELECT * FROM meta"):
-    other.execute(text).fetchall()
-print("locked", flush=True)
-sys.stdin.read()
-"""
-
-
 def locked(place):
     """While another program has the ledger open, no command does anything with it; afterwards everything is as it
     was."""
-    # In a separate process: if this one read and closed the file, it would lose its locks.
-    words = [sys.executable, "-c", LOCK, place.ledger]
-    with subprocess.Popen(words, stdin=subprocess.PIPE, stdout=subprocess.PIPE, text=True) as other:
-        assert other.stdout.readline() == "locked\n"
+    with ledger_files.locked(place.ledger):
         place.refuses("bag: store")
-        other.stdin.close()
     assert place.run(*place.words("audit")) == (0, ["valid"])
-
-
-DAMAGES = [
-    ("DELETE FROM piece", "bag: damaged t1 data/a.txt"),
-    ("UPDATE piece SET n = 1", "bag: damaged t1 data/a.txt"),
-    ("UPDATE piece SET body = x'616264'", "bag: damaged t1 data/a.txt"),
-    ("UPDATE held SET size = 4 WHERE path = 'data/a.txt'", "bag: damaged t1 data/a.txt"),
-    ("INSERT INTO held (transfer, path, size) VALUES (1, 'data/q', 0)", "bag: damaged t1 data/q"),
-    ("INSERT INTO held (transfer, path, size) VALUES (1, 'data/%' || char(10), 0)", "bag: damaged t1 data/%25%0A"),
-    # Paths of 4,097 octets and more, which are no paths.
-    *[(f"INSERT INTO held (transfer, path, size) VALUES (1, 'data/' || hex(zeroblob({number})), 0)",
-       f"bag: damaged t1 data/{'0' * 2 * number}") for number in (2_046, 9_999)],
-    ("UPDATE tag SET path = hex(zeroblob(9999)) WHERE path = 'bagit.txt'", "bag: damaged t1 "),
-    ("UPDATE tag SET body = x'' WHERE path = 'bagit.txt'", "bag: damaged t1 "),
-    ("UPDATE tag SET path = '../x' WHERE path = 'bagit.txt'", "bag: damaged t1 "),
-    ("UPDATE meta SET v = 9", "bag: not a ledger"),
-    ("UPDATE meta SET v = 1", "bag: not a ledger"),
-    # The tables of format 1 are others.
-    ("UPDATE meta SET v = 1; DROP TABLE piece; DROP TABLE held", "bag: not a ledger"),
-    ("UPDATE meta SET v = 1; DROP TABLE piece; DROP TABLE held; DROP TABLE tag; DROP TABLE transfer",
-        "bag: not a ledger"),
-    ("INSERT INTO meta VALUES ('more', 1)", "bag: not a ledger"),
-    ("DELETE FROM meta", "bag: not a ledger"),
-    ("DROP TABLE piece", "bag: not a ledger"),
-    ("INSERT INTO piece VALUES (99, 0, x'00')", "bag: not a ledger"),
-    ("INSERT INTO tag VALUES (99, 'x', x'00')", "bag: not a ledger"),
-]
-# One octet more than a tag file may have. The log of such a change is longer than that of a killed command.
-TOO_LARGE = ("UPDATE tag SET body = zeroblob(16777217) WHERE path = 'bagit.txt'", "bag: damaged t1 ")
 
 
 def damaged(make):

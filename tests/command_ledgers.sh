@@ -2,7 +2,7 @@
 # The commands on ledgers of every kind, and in every order.
 set -u
 cd "$(dirname -- "$0")/.." || exit 1
-. tests/common.bash
+. tests/lib/common.bash
 
 take_program
 tried='11 that are not ledgers, 21 damaged, 105 changed, 98 orders, 7 files read by sqlite3,'

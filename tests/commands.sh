@@ -2,7 +2,7 @@
 # The commands on a ledger, with real ledgers and folders: what they print, their statuses, and what exists afterwards.
 set -u
 cd "$(dirname -- "$0")/.." || exit 1
-. tests/common.bash
+. tests/lib/common.bash
 
 # put FILE TEXT: writes the file, and makes its parent folders.
 put() {

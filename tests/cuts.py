@@ -10,10 +10,10 @@ settled, whatever later syncs say.
 
 After a cut `report`, `audit`, `list` or the same command again recovers the ledger, and may be cut too, up to four
 times in a row. It must find all that was answered before (a line that was printed), each payload file whole or not at
-all, and of the deliveries the first ones. sqlite3 reads what is left, row by row and octet by octet (tests/crashes.py);
-then the command is given again and ends as if nothing had happened. The commands are a first `begin` that is refused
-and takes back the ledger that it made, one that is not, another, `intake`, `fetch`, and the first command on ledgers of
-format 1 with pages of several sizes: plain ones, in WAL mode, and with all in the log.
+all, and of the deliveries the first ones. sqlite3 reads what is left, row by row and octet by octet
+(tests/model/ledger_rows.py); then the command is given again and ends as if nothing had happened. The commands are a
+first `begin` that is refused and takes back the ledger that it made, one that is not, another, `intake`, `fetch`, and
+the first command on ledgers of format 1 with pages of several sizes: plain ones, in WAL mode, and with all in the log.
 
 It ends after CUTS cuts (400) or some more, and writes the seed and what was tried to TRIED, or to standard output. If
 it fails, it ends with the seed. Left out is a `begin` whose ledger cannot be made, and which takes it back.
@@ -26,17 +26,15 @@ import random
 import re
 import shutil
 import sqlite3
-import subprocess
 import sys
 import tempfile
-import types
 
-import crashes
+import ledger_rows
+from events import tag_files
 from explaining import is_explained
-from first_format import write_first
-from left_logs import in_the_log
+from ledger_files import PIECE, in_the_log, write_first
+from running import run
 
-PIECE = crashes.PIECE
 CALL = re.compile(r"(\w+)\((.*)\) += (-?\d+)")
 PATH, TEXT = re.compile(r"<([^>]*)>"), re.compile(r'"([^"]*)"')
 TRACED = "openat,pwrite64,ftruncate,fdatasync,fsync,unlink,write"
@@ -188,8 +186,7 @@ class Place:
 
     def run(self, words, before=()):
         """The status and the lines."""
-        ran = subprocess.run([*before, self.program, words[0], self.ledger, *words[1:]], capture_output=True,
-            timeout=60, check=False)
+        ran = run([*before, self.program, words[0], self.ledger, *words[1:]])
         lines = ran.stdout.decode().splitlines()
         assert any("inject" in word for word in before) or is_explained(lines, ran.returncode, ran.stderr), (words, ran)
         return ran.returncode, lines
@@ -206,7 +203,7 @@ class Place:
         if not self.ledger.exists():
             return None
         try:
-            return crashes.found(self.ledger)
+            return ledger_rows.found(self.ledger)
         except sqlite3.DatabaseError as error:
             assert "not a database" in str(error), error
             return None
@@ -327,7 +324,7 @@ def works(place, folder, rng):
     sizes = [2 * PIECE + 1, 0, 1, PIECE, 2_048, 70_000, 9]
     contents = {b"data/%d" % number: rng.randbytes(size) for number, size in enumerate(sizes)}
     fetch = b"".join(b"http://example.org/ - %s\n" % path for path in contents)
-    tags = dict(crashes.tag_files(contents.items(), (b"fetch.txt", fetch)))
+    tags = dict(tag_files(contents.items(), (b"fetch.txt", fetch)))
     bag = write(folder / "bag", {**tags, **contents})
     folders = [write(folder / f"from{first}", dict(list(contents.items())[first:last]))
         for first, last in [(0, 1), (1, 4), (4, 7)]]
@@ -356,11 +353,11 @@ def moves(place, folder, rng):
         with contextlib.closing(sqlite3.connect(database)) as opened:
             opened.executescript(f"PRAGMA page_size = {page}; VACUUM"
                 + ("; PRAGMA journal_mode = WAL" if kind != "plain" else ""))
-        found = crashes.found(database)
+        found = ledger_rows.found(database)
         start = {"": database.read_bytes(), "-wal": None}
         if kind == "log":
             place.put({})
-            in_the_log(types.SimpleNamespace(ledger=place.ledger), database, "VACUUM")
+            in_the_log(place.ledger, database, "VACUUM")
             start = {"": place.files()[""][:page], "-wal": place.files()["-wal"]}
         yield Work(start, words, [], [[found]])
 

@@ -3,7 +3,7 @@
 # number of cuts.
 set -u
 cd "$(dirname -- "$0")/.." || exit 1
-. tests/common.bash
+. tests/lib/common.bash
 
 take_program
 if strace -o "$work/calls" true 2>"$work/no strace"; then

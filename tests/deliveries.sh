@@ -4,19 +4,21 @@
 # which are opened again.
 set -u
 cd "$(dirname -- "$0")/.." || exit 1
-. tests/common.bash
+. tests/lib/common.bash
 
 build_driver
 expect 'random lists of deliveries, over a map' 0 '10000 lists of 166738 events: all answered alike' \
     env TMPDIR="$work" python3 -B tests/deliveries.py 10000 1 "$driver" calls map
-python3 -B tests/growing_files.py >"$work/growing"
-python3 -B tests/many_files.py >"$work/many"
+python3 -B tests/data/long_lists.py growing >"$work/growing"
+python3 -B tests/data/long_lists.py many >"$work/many"
+growing=$(python3 -B tests/data/long_lists.py growing --answers)
+many=$(python3 -B tests/data/long_lists.py many --answers)
 for keeper in map sqlite; do
     expect "worked cases, over $keeper" 0 '163 worked answers: 0 otherwise' \
-        python3 -B tests/worked_answers.py "$driver" calls "$keeper"
-    expect "256 growing files in one run, over $keeper" 0 "$(python3 -B tests/growing_files.py --answers)" \
+        python3 -B tests/data/worked_answers.py "$driver" calls "$keeper"
+    expect "256 growing files in one run, over $keeper" 0 "$growing" \
         sh -c '"$1" calls "$2" <"$3"' sh "$driver" "$keeper" "$work/growing"
-    expect "65,540 payload files, and as many tag files, over $keeper" 0 "$(python3 -B tests/many_files.py --answers)" \
+    expect "65,540 payload files, and as many tag files, over $keeper" 0 "$many" \
         sh -c '"$1" calls "$2" <"$3"' sh "$driver" "$keeper" "$work/many"
 done
 expect 'random lists of deliveries, over a database' 0 '10000 lists of 166738 events: all answered alike' \

@@ -4,7 +4,7 @@
 # is in no contract.
 set -u
 cd "$(dirname -- "$0")/.." || exit 1
-. tests/common.bash
+. tests/lib/common.bash
 
 # Each call with the function that it stands in, and what is removed.
 program_sources | xargs awk '

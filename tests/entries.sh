@@ -3,7 +3,7 @@
 # there stays as it was. Cases that program.sh, make.sh, commands.sh and command_ledgers.py have are left out here.
 set -u
 cd "$(dirname -- "$0")/.." || exit 1
-. tests/common.bash
+. tests/lib/common.bash
 
 take_program
 chmod 711 "$work"

@@ -3,7 +3,7 @@
 # octet. The texts of the system are those of strerror.
 set -u
 cd "$(dirname -- "$0")/.." || exit 1
-. tests/common.bash
+. tests/lib/common.bash
 take_program
 
 missing='No such file or directory (os error 2)'
@@ -133,8 +133,8 @@ for words in "begin LEDGER t1 examples/first-bag" "intake LEDGER t1 examples/fir
         bag ${words/LEDGER/"$work/short"}
     expect "${words%% *}: a ledger that was cut short stays" 0 '' cmp "$work/short" <(head -c 20000 "$work/ledger")
 done
-PYTHONPATH=tests python3 -B -c \
-    'import sys; from first_format import write_first; write_first(sys.argv[1], {"t1": {"data/b": b"b"}})' "$work/taken"
+python3 -B -c \
+    'import sys; from ledger_files import write_first; write_first(sys.argv[1], {"t1": {"data/b": b"b"}})' "$work/taken"
 python3 -c \
     'import sqlite3, sys; sqlite3.connect(sys.argv[1]).executescript("CREATE TABLE held (id INTEGER PRIMARY KEY)")' \
     "$work/taken"
@@ -473,8 +473,8 @@ bag: $work/disk/ledger: database or disk is full" next_on_disk
     }
     explain 'a refusal on a full disk' 1 "bag: $work/disk/ledger: its log stays beside it, and both have to be kept together: \
 database or disk is full" refused_on_disk
-    PYTHONPATH=tests python3 -B -c \
-        'import sys; from first_format import write_first
+    python3 -B -c \
+        'import sys; from ledger_files import write_first
 write_first(sys.argv[1], {"t1": {"data/b": bytes(60_000)}})' \
         "$work/first"
     first_on_disk() {

@@ -15,7 +15,7 @@ import sys
 import tempfile
 import time
 
-from command_ledgers import Place
+from places import Place
 
 PAYLOAD = ["data/Z", "data/a b", "data/a!", "data/a.txt", "data/a/x", "data/a0", "data/b", "data/\u00e9", "data/\u20ac",
     "data/\U0001f600"]

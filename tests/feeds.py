@@ -1,8 +1,8 @@
 #!/usr/bin/env python3
 """feeds.py COUNT SEED DRIVER: worked texts of tag files in pieces; and the tag files of every example and of the first
-COUNT random bags of tests/random_bags.py, each cut at every place, or at 64 random ones if it is longer than 256
+COUNT random bags of tests/lib/random_bags.py, each cut at every place, or at 64 random ones if it is longer than 256
 octets, and in several pieces. The driver reads each text whole and from its pieces, which have to agree, also with
-tests/reference.py. The same seed makes the same texts. The first that is read otherwise is printed.
+tests/model/reference.py. The same seed makes the same texts. The first that is read otherwise is printed.
 
 The driver reads lines of standard input, each a word with its fields after one blank each:
 
@@ -22,11 +22,12 @@ are in hex, or `-` if they are empty.
 """
 import os
 import random
-import subprocess
 import sys
 
 import random_bags
 import reference
+from reference_texts import Text, field, pairs
+from running import ask
 
 E256 = "e3b0c44298fc1c149afbf4c8996fb92427ae41e4649b934ca495991b7852b855"
 A256 = "ba7816bf8f01cfea414140de5dae2223b00361a396177a9cb410ff61f20015ad"
@@ -36,10 +37,6 @@ OTHER_ENDS = f"{A256} *data/a.txt\r\n\r\n{E256.upper()}\t./data/e%0A.txt\r".enco
 ENTRIES = b"http://example.org/a 3 data/a.txt\nhttp://example.org/e - data/e.txt\n"
 LONGEST = 256  # octets of a text that is cut at each place
 PLACES = 64
-
-
-def field(octets):
-    return octets.hex() or "-"
 
 
 def line(word, *words_and_octets):
@@ -56,10 +53,6 @@ def cut_at(places, name, text):
 
 def cut_everywhere(name, text):
     return cut_at(map(str, range(len(text) + 1)), name, text)
-
-
-def pairs(*parts):
-    return " ".join(["pairs", *(part if isinstance(part, str) else field(part) for part in parts)])
 
 
 # A line for the driver, and what it prints. Each value is read off docs/FORMAT.md.
@@ -95,36 +88,6 @@ ROWS = [
 ]
 
 
-class Text(reference.Bag):
-    """One tag file, which is read by the rules of a version."""
-
-    def __init__(self, name, version, octets):
-        super().__init__([name], False)
-        self.name, self.version, self.text_octets = name, version, octets
-
-    def octets(self, path):
-        return self.text_octets
-
-    def reading(self):
-        """What the driver prints of it."""
-        if self.name == b"bag-info.txt":
-            value = self.read(self.name, reference.read_info)
-            found = ["elements", *(field(part) for element in value or [] for part in element)]
-        elif self.name == b"fetch.txt":
-            value = self.read(self.name, reference.read_fetch)
-            lines = dict(reference.numbered(self.text_octets))
-            found = ["entries"]
-            for number, length, path in value or []:
-                url = reference.cut(lines[number])[0]
-                found += [str(number), field(url), "-" if length is None else str(length), field(path)]
-        else:
-            value = self.read(self.name, reference.read_manifest)
-            found = ["pairs", *(part for path, digest in (value or {}).items() for part in (digest, field(path)))]
-        if value is None:
-            found = [fault[-1] for fault in self.faults]
-        return " ".join([str(len(reference.lines_of(self.text_octets))), *found])
-
-
 def is_read(name):
     found = reference.MANIFEST.fullmatch(name)
     return name in (b"bag-info.txt", b"fetch.txt") or bool(found) and found[2] in reference.ALGORITHMS
@@ -156,9 +119,7 @@ def cuttings(rng, text):
 
 
 def answers(driver, lines):
-    ran = subprocess.run([driver, "feeds"], input="".join(asked + "\n" for asked in lines).encode(),
-                         capture_output=True, timeout=600,
-                         check=False)
+    ran = ask([driver, "feeds"], lines)
     return ran.stdout.decode().splitlines() + ([] if ran.returncode == 0 else [f"status {ran.returncode}"])
 
 

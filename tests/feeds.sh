@@ -3,7 +3,7 @@
 # The driver reads each whole and from its pieces, and a second program reads it too.
 set -u
 cd "$(dirname -- "$0")/.." || exit 1
-. tests/common.bash
+. tests/lib/common.bash
 
 build_driver
 expect 'tag files in pieces' 0 '19 worked texts, and 14282 others that were cut in 1218132 ways: all read alike' \

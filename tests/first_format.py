@@ -6,63 +6,18 @@ sqlite3 reads the tables before and after, row by row. A ledger that is refused,
 stay of format 1, with all that it held. At the end it prints how much of each was tried.
 """
 import contextlib
-import hashlib
 import pathlib
 import random
 import shutil
 import sqlite3
-import subprocess
 import sys
 import tempfile
 
-from command_ledgers import LOCK
-from explaining import run_limited
+import ledger_files
+from ledger_files import FIRST, ITEM, PIECE, SECOND, SMALL, change, tags_of, write_first
+from running import run_limited
 
-PIECE = 65_536
 LARGEST = 16_777_216
-DECLARATION = b"BagIt-Version: 1.0\nTag-File-Character-Encoding: UTF-8\n"
-
-
-def blocks():
-    """The texts of the tables of both formats, as FORMAT.md has them, but for blanks: those of format 2, and then that
-    of format 1."""
-    text = (pathlib.Path(__file__).parent.parent / "docs/FORMAT.md").read_text(encoding="utf-8")
-    found = [block.partition("```")[0] for block in text.split("```sql\n")[1:]]
-    return [["CREATE TABLE " + " ".join(part.split()) for part in block.split("CREATE TABLE ")[1:]] for block in found]
-
-
-SECOND, ITEM = blocks()
-FIRST = SECOND[:3] + ITEM
-
-
-def tags_of(files):
-    lines = "".join(f"{hashlib.sha256(octets).hexdigest()}  {path.replace('%', '%25')}\n"
-        for path, octets in files.items())
-    return {"bagit.txt": DECLARATION, "manifest-sha256.txt": lines.encode()}
-
-
-def write_first(file, transfers, unlisted=None):
-    """A ledger of format 1 with these payload files in each transfer, all listed, and in `unlisted` those that are not
-    held."""
-    with contextlib.closing(sqlite3.connect(file)) as database:
-        for text in FIRST:
-            database.execute(text)
-        database.execute("INSERT INTO meta (k, v) VALUES ('bag-ledger', 1)")
-        for name, files in transfers.items():
-            transfer = database.execute("INSERT INTO transfer (name) VALUES (?)", [name]).lastrowid
-            for path, body in tags_of({**files, **(unlisted or {}).get(name, {})}).items():
-                database.execute("INSERT INTO tag (transfer, path, body) VALUES (?, ?, ?)", (transfer, path, body))
-            for path, octets in files.items():
-                database.execute("INSERT INTO item (transfer, path, size, body) VALUES (?, ?, ?, ?)",
-                    (transfer, path, len(octets), octets))
-        database.commit()
-
-
-def change(file, text):
-    """Changes the ledger. The change is in the file and not in its log."""
-    with contextlib.closing(sqlite3.connect(file)) as database:
-        database.executescript(text)
-        database.execute("PRAGMA wal_checkpoint(TRUNCATE)")
 
 
 def read(file):
@@ -124,13 +79,10 @@ class Program:
         return folder
 
 
-THREE = {"data/a.txt": b"abc", "data/e.txt": b""}
-
-
 def is_moved(program):
     """A small ledger, one with payload files of many sizes, one with as many as a manifest can list, and one with more
     transfers than can be numbered in 16 bits. Returns how many payload files there were."""
-    small = {"t1": THREE, "t5": {"data/b": bytes(PIECE + 1)}}
+    small = {"t1": SMALL, "t5": {"data/b": bytes(PIECE + 1)}}
     rng = random.Random(7)
     sizes = [0, 1, PIECE - 1, PIECE, PIECE + 1, 2 * PIECE, 2 * PIECE + 1, LARGEST, LARGEST + 1]
     many = {"sizes": {f"data/{size}": rng.randbytes(size) for size in sizes}, "t": {"data/%25 é": b"x"}, "none": {}}
@@ -163,10 +115,10 @@ def first_commands(program):
         for is_moved_first in (False, True):
             place = program.place()
             bag = place / "bag"
-            for path, octets in {**tags_of({**THREE, "data/z": b"z"}), **THREE, "data/z": b"z"}.items():
+            for path, octets in {**tags_of({**SMALL, "data/z": b"z"}), **SMALL, "data/z": b"z"}.items():
                 (bag / path).parent.mkdir(parents=True, exist_ok=True)
                 (bag / path).write_bytes(octets)
-            write_first(place / "ledger", {"t1": THREE}, {"t1": {"data/z": b"z"}})
+            write_first(place / "ledger", {"t1": SMALL}, {"t1": {"data/z": b"z"}})
             if is_moved_first:
                 assert program.run("list", place / "ledger") == (0, ["t1"])
             more = {"begin": ["t1", bag], "intake": ["t1", bag], "fetch": ["t1", bag], "export": ["t1", place / "out"],
@@ -274,7 +226,7 @@ def changed(program):
     held. Returns how many there were."""
     for text, *lines in CHANGES:
         file = program.place() / "ledger"
-        write_first(file, {"t1": {**THREE, "data/z": bytes(PIECE + 1)}, "t2": {"data/a.txt": b"abc"}})
+        write_first(file, {"t1": {**SMALL, "data/z": bytes(PIECE + 1)}, "t2": {"data/a.txt": b"abc"}})
         change(file, text)
         before = file.read_bytes()
         is_refused = lines[0].startswith("bag: ")
@@ -292,13 +244,10 @@ def changed(program):
 def locked(program):
     """While another program has the ledger open it is not moved."""
     file = program.place() / "ledger"
-    write_first(file, {"t1": THREE})
+    write_first(file, {"t1": SMALL})
     before = file.read_bytes()
-    with subprocess.Popen([sys.executable, "-c", LOCK, file], stdin=subprocess.PIPE, stdout=subprocess.PIPE,
-        text=True) as other:
-        assert other.stdout.readline() == "locked\n"
+    with ledger_files.locked(file):
         assert program.run("report", file, "t1") == (3, ["bag: store"])
-        other.stdin.close()
     assert file.read_bytes() == before
     assert program.run("report", file, "t1") == (0, ["valid"])
 
@@ -306,7 +255,7 @@ def locked(program):
 def full_disks(program):
     """A disk that is full after so many octets: the ledger stays what it was, or it is moved. Returns how often it
     stayed and was moved."""
-    transfers = {"t1": {**THREE, "data/z": random.Random(3).randbytes(3 * PIECE)}}
+    transfers = {"t1": {**SMALL, "data/z": random.Random(3).randbytes(3 * PIECE)}}
     whole = program.place() / "ledger"
     write_first(whole, transfers)
     was, size, counts = read(whole)[1], whole.stat().st_size, [0, 0]

@@ -3,16 +3,16 @@
 # numbers, and the limits from both sides.
 set -u
 cd "$(dirname -- "$0")/.." || exit 1
-. tests/common.bash
+. tests/lib/common.bash
 
 take_program
 
 for kind in small hostile; do
     case $kind in
-    small) table=small_bags.py number=377 ;;
-    hostile) table=hostile.py number=330 ;;
+    small) number=377 ;;
+    hostile) number=330 ;;
     esac
     expect "each $kind bag has the answer that FORMAT.md requires" 0 "$number $kind bags: 0 answered differently" \
-        env TMPDIR="$work" python3 -B "tests/$table" "$program"
+        env TMPDIR="$work" python3 -B tests/hostile.py "$kind" "$program"
 done
 finish

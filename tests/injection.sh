@@ -4,7 +4,7 @@
 # command on a ledger some system calls fail, spread over all with the same name; with the option --all every one fails.
 set -u
 cd "$(dirname -- "$0")/.." || exit 1
-. tests/common.bash
+. tests/lib/common.bash
 
 take_program
 
@@ -627,8 +627,8 @@ bag: $work/longer ledger: disk I/O error
     cp "$work/begun" "$work/opened"
     expect 'calls on a ledger that fail: intake' 0 $'taken data/a.txt\ntaken data/e.txt' \
         "$program" intake "$work/begun" t1 examples/first-bag
-    expect 'calls on a ledger that fail: one of format 1' 0 '' env PYTHONPATH=tests python3 -B -c \
-        'import sys; from first_format import THREE, write_first; write_first(sys.argv[1], {"t1": THREE})' "$work/older"
+    expect 'calls on a ledger that fail: one of format 1' 0 '' python3 -B -c \
+        'import sys; from ledger_files import SMALL, write_first; write_first(sys.argv[1], {"t1": SMALL})' "$work/older"
     for found in begun older; do
         expect "each read of a ledger that fails: list, $found" 0 '' \
             each_of "$found" pread64 EIO 'disk I/O error' list "$work/committed"
@@ -690,7 +690,7 @@ bag: $work/longer ledger: disk I/O error
     calls=5
     [ "${1-}" != --all ] || calls=0
     expect 'calls that fail in the commands' 0 '' \
-        env TMPDIR="$work" sh -c 'python3 -B tests/failing_commands.py "$@" >"$0"' \
+        env TMPDIR="$work" sh -c 'python3 -B tests/lib/failing_commands.py "$@" >"$0"' \
         "$work/tried" "$program" "$calls" calls
     cat "$work/tried"
 else

@@ -2,7 +2,7 @@
 # The script `install`, with its own folders to install into, and the manual page.
 set -u
 cd "$(dirname -- "$0")/.." || exit 1
-. tests/common.bash
+. tests/lib/common.bash
 top=$PWD
 
 take_program

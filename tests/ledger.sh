@@ -2,9 +2,9 @@
 # Ledgers in databases whose files are in memory: their work is stopped at each call of a file.
 set -u
 cd "$(dirname -- "$0")/.." || exit 1
-. tests/common.bash
+. tests/lib/common.bash
 
 build_driver
-expect 'stops, and rows' 0 '' python3 -B tests/crashes.py "$driver" "$work/stops"
+expect 'stops, and rows' 0 '' python3 -B tests/ledger.py "$driver" "$work/stops"
 cat "$work/stops"
 finish

@@ -5,57 +5,18 @@ copied into the database. What the log has was answered, so no command may lose 
 A command is held up, without any waiting for a time to pass, by an output that is a full pipe: it stops before its
 first line. At the end it prints how much was tried.
 """
-import fcntl
 import os
 import pathlib
 import resource
 import shutil
 import sqlite3
-import subprocess
 import sys
 import tempfile
-import time
 
-from command_ledgers import ALL, DAMAGES, PIECE, SMALL, Place
-from explaining import is_explained
-
-SET_PIPE_SIZE = 1031
-
-
-class HeldUp:
-    """A command that has done the work for its first line and can't print it."""
-
-    def __init__(self, place, *words):
-        self.output, full = os.pipe()
-        fcntl.fcntl(full, SET_PIPE_SIZE, PIECE)
-        os.set_blocking(full, False)
-        self.before = os.write(full, b"." * PIECE)
-        os.set_blocking(full, True)
-        self.ran = subprocess.Popen([place.program, *words], stdout=full, stderr=subprocess.PIPE)
-        os.close(full)
-        until = time.monotonic() + 60
-        while not self.writes():
-            assert self.ran.poll() is None and time.monotonic() < until, (words, self.ran.poll())
-            time.sleep(0.001)
-
-    def writes(self):
-        """Whether it waits in a call of the system on its standard output."""
-        call = pathlib.Path(f"/proc/{self.ran.pid}/syscall").read_text(encoding="ascii").split()
-        return call[1:2] == ["0x1"]
-
-    def kill(self):
-        self.ran.kill()
-        self.ran.communicate()
-        os.close(self.output)
-
-    def go_on(self):
-        """The status and the lines."""
-        with open(self.output, "rb") as output:
-            printed = output.read()
-        said = self.ran.communicate()[1]
-        lines = printed[self.before :].decode().splitlines()
-        assert is_explained(lines, self.ran.returncode, said), said
-        return self.ran.returncode, lines
+from damaged_ledgers import DAMAGES
+from ledger_files import PIECE, SMALL, in_the_log
+from places import ALL, HeldUp, Place
+from running import run
 
 
 def folder(place, name, files):
@@ -70,7 +31,7 @@ def killed(make, contents=None):
     """A ledger whose intake was killed: it holds all of its payload files, and has its log."""
     place = make(contents or SMALL)
     assert place.run(*place.words("begin")) == (0, ["new"])
-    HeldUp(place, *place.words("intake")).kill()
+    HeldUp(place.program, *place.words("intake")).kill()
     assert log_of(place.ledger).stat().st_size > 0
     return place
 
@@ -96,7 +57,7 @@ def each_folder_is_answered(make):
     place = make({"data/a": b"first", "data/b": b"second"})
     first, second = folder(place, "one", {"data/a": b"first"}), folder(place, "two", {"data/b": b"other"})
     assert place.run(*place.words("begin")) == (0, ["new"])
-    ran = HeldUp(place, "intake", place.ledger, "t1", first, second)
+    ran = HeldUp(place.program, "intake", place.ledger, "t1", first, second)
     assert held(place.ledger) == ["data/a"]
     (second / "data/b").write_bytes(b"second")
     assert ran.go_on() == (0, ["taken data/a", "taken data/b"])
@@ -122,7 +83,7 @@ def a_refused_ledger_keeps_its_log(make):
     """A ledger with a log that is damaged, or open in another program, stays as it was, octet for octet."""
     place = make(SMALL)
     assert place.run(*place.words("begin")) == (0, ["new"])
-    ran = HeldUp(place, *place.words("intake"))
+    ran = HeldUp(place.program, *place.words("intake"))
     place.refuses("bag: store")
     assert log_of(place.ledger).stat().st_size > 0
     assert ran.go_on() == (0, ["taken data/a.txt", "taken data/e.txt"])
@@ -133,7 +94,7 @@ def a_refused_ledger_keeps_its_log(make):
     # All of a ledger is in its log, and its file is empty or gone: no command touches the log, and none makes a file.
     # With its first page the file is whole again.
     emptied = killed(make)
-    in_the_log(emptied, emptied.ledger, "PRAGMA journal_mode = WAL; VACUUM")
+    in_the_log(emptied.ledger, emptied.ledger, "PRAGMA journal_mode = WAL; VACUUM")
     first = emptied.ledger.read_bytes()[:4_096]
     emptied.ledger.write_bytes(b"")
     emptied.refuses("bag: store")
@@ -143,12 +104,12 @@ def a_refused_ledger_keeps_its_log(make):
     assert emptied.run(*emptied.words("audit")) == (0, ["valid"])
     # If an octet is left of the file, it is opened with its log.
     cut = killed(make)
-    in_the_log(cut, cut.ledger, "PRAGMA journal_mode = WAL; VACUUM")
+    in_the_log(cut.ledger, cut.ledger, "PRAGMA journal_mode = WAL; VACUUM")
     cut.ledger.write_bytes(b"S")
     assert cut.run(*cut.words("audit")) == (0, ["valid"])
     # The store marks the end of a log that another program wrote, so it isn't compared octet by octet.
     other = make(SMALL)
-    in_the_log(other, other.ledger,
+    in_the_log(other.ledger, other.ledger,
         "PRAGMA journal_mode = WAL; CREATE TABLE meta (k TEXT, v TEXT); INSERT INTO meta VALUES ('k', 'v')")
     for command in ALL:
         assert other.run(*other.words(command)) == (3, ["bag: not a ledger"]), command
@@ -162,23 +123,8 @@ def damaged_in_the_log(place, damage):
     ledger = place.work / "changed"
     for end in ("", "-wal"):
         shutil.copy(f"{place.ledger}{end}", f"{ledger}{end}")
-    in_the_log(place, ledger, damage)
+    in_the_log(place.ledger, ledger, damage)
     return place
-
-
-def in_the_log(place, database, text):
-    """Has sqlite3 change this database, and makes the ledger a copy of it, with the log as it is before the database is
-    closed."""
-    opened = sqlite3.connect(database)
-    opened.executescript("PRAGMA wal_autocheckpoint = 0")
-    opened.executescript(text)
-    opened.commit()
-    copies = [(pathlib.Path(f"{database}{end}").read_bytes(), f"{place.ledger}{end}") for end in ("", "-wal")]
-    opened.close()
-    for end in ("", "-wal", "-shm"):
-        pathlib.Path(f"{database}{end}").unlink(missing_ok=True)
-    for octets, name in copies:
-        pathlib.Path(name).write_bytes(octets)
 
 
 def little_memory_loses_no_log(make):
@@ -189,8 +135,7 @@ def little_memory_loses_no_log(make):
     seen, limits = set(), range(2_000, 64_000, 1_000)
     for limit in limits:
         limited = lambda: resource.setrlimit(resource.RLIMIT_AS, (limit * 1024, limit * 1024))
-        ran = subprocess.run([place.program, *place.words("audit")], preexec_fn=limited, capture_output=True,
-            timeout=60, check=False)
+        ran = run([place.program, *place.words("audit")], preexec_fn=limited)
         if ran.stdout == b"bag: memory\n" or ran.returncode not in (0, 1, 3):
             seen.add("memory" if ran.stdout else "not started")
             if {file: file.read_bytes() for file in place.ledger.parent.iterdir()} == dict(files):
@@ -226,7 +171,7 @@ def a_log_is_named_after_its_file(make):
         (place.work / "far/link").symlink_to(place.ledger)
         (place.work / "far/again").symlink_to("../link")
         assert place.run(*place.words("begin")) == (0, ["new"])
-        HeldUp(place, "intake", place.work / first, "t1", place.bag).kill()
+        HeldUp(place.program, "intake", place.work / first, "t1", place.bag).kill()
         assert sorted(file.name for file in place.ledger.parent.iterdir()) == ["ledger", "ledger-wal"], first
         assert not list(place.work.glob("*-wal")) and not list(place.work.glob("far/*-wal")), first
         assert place.run("audit", place.work / then, "t1") == (0, ["valid"]), (first, then)

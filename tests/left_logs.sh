@@ -2,7 +2,7 @@
 # Ledgers whose log is still next to them, because a command was killed or the log couldn't be copied.
 set -u
 cd "$(dirname -- "$0")/.." || exit 1
-. tests/common.bash
+. tests/lib/common.bash
 
 take_program
 if [ -r /proc/self/syscall ]; then

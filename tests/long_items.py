@@ -10,11 +10,11 @@ import hashlib
 import pathlib
 import random
 import sqlite3
-import subprocess
 import sys
 import tempfile
 
-from command_ledgers import DECLARATION, PIECE, tables
+from ledger_files import DECLARATION, PIECE, TABLES
+from running import run
 
 # One piece and more, with ends within, at and behind a block of 64 octets.
 SIZES = [PIECE + 1, PIECE + 63, PIECE + 64, PIECE + 65, 2 * PIECE - 1, 2 * PIECE, 2 * PIECE + 1, 3 * PIECE,
@@ -32,7 +32,7 @@ def write(file, contents, algorithms):
     """A ledger of format 2 with one transfer, t1, that has these payload files, whose numbers don't go by their
     paths."""
     with contextlib.closing(sqlite3.connect(file)) as database:
-        for text in tables():
+        for text in TABLES:
             database.execute(text)
         database.execute("INSERT INTO meta (k, v) VALUES ('bag-ledger', 2)")
         transfer = database.execute("INSERT INTO transfer (name) VALUES ('t1')").lastrowid
@@ -95,7 +95,7 @@ def damage(file, paths, ways):
 
 
 def list_names(program, file):
-    ran = subprocess.run([program, "list", file], capture_output=True, timeout=300, check=False)
+    ran = run([program, "list", file], timeout=300)
     return ran.returncode, ran.stdout.decode(), ran.stderr.decode()
 
 

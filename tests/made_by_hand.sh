@@ -6,10 +6,10 @@
 #
 # If this fails: look at each place with a plus. It is right where the answer tells of a request for memory that was
 # refused just before (or of an error of a call), and wrong where it depends on anything else, such as a number or a
-# length. If all are right, renew the list: `bash tests/made_by_hand.sh --list >tests/made_by_hand.list`.
+# length. If all are right, renew the list: `bash tests/made_by_hand.sh --list >tests/data/made_by_hand.list`.
 set -u
 cd "$(dirname -- "$0")/.." || exit 1
-. tests/common.bash
+. tests/lib/common.bash
 
 # Each place with the file, the function that it stands in, and what is made there. What stands before `=>`, or is
 # compared, is not made. `AllocError` after a comma or a colon is a type.
@@ -37,6 +37,6 @@ if [ "${1-}" = --list ]; then
     places
     exit
 fi
-expect 'want of memory that is made by hand' 0 '' diff -U 0 tests/made_by_hand.list <(places)
+expect 'want of memory that is made by hand' 0 '' diff -U 0 tests/data/made_by_hand.list <(places)
 [ "$failed" -eq 0 ] || sed -n '/^# If this fails/,/^set/s/^# //p' tests/made_by_hand.sh
 finish

@@ -2,7 +2,7 @@
 # `bag make` on real folders: what it prints, its status, what it leaves behind, and what other tools say about it.
 set -u
 cd "$(dirname -- "$0")/.." || exit 1
-. tests/common.bash
+. tests/lib/common.bash
 
 # valid_bag SRC DST: DST is a valid bag, and its payload is the files in SRC.
 valid_bag() {

@@ -1,8 +1,8 @@
 #!/usr/bin/env python3
 """new_bags.py COUNT SEED PROGRAM DRIVER..: has the driver write chosen bags and COUNT random ones, in one process, and
-compares its answers and each file with what is made here, using only section 17 of docs/FORMAT.md and hashlib. Then
+compares its answers and each file with what tests/model/reference_writer.py makes. Then
 each bag is put in a folder, where coreutils check each line of its manifests that they can spell, and the program and
-tests/reference.py judge it. The same seed makes the same bags. The first answer that differs is reported with its
+tests/model/reference.py judge it. The same seed makes the same bags. The first answer that differs is reported with its
 lines.
 
 The driver reads lines from standard input, and prints a line for each. Each is a word followed by its fields, each
@@ -24,17 +24,14 @@ import hashlib
 import os
 import random
 import re
-import subprocess
 import sys
 import tempfile
 
 import reference
-from explaining import is_explained
+from reference_writer import ALGORITHMS, LARGEST_TAG_FILE, MOST_FILES, Order, verdict
+from running import is_answered, run
+from written_bags import accepted_by_coreutils, asked, difference, fits_coreutils, put, written
 
-ALGORITHMS = ["md5", "sha1", "sha256", "sha512"]
-MOST_FILES, LARGEST_TAG_FILE = 100000, 16777216
-# The system accepts paths of up to 4,095 octets, including the folder.
-LONGEST_IN_FOLDER = 3900
 # On both sides of the length up to which the digests of files are taken together, and of half of it.
 EDGES = [0, 1, 65535, 65536, 65537, 131071, 131072, 131073, 200000]
 # The length of the pieces in which longer files are read, written and hashed side by side.
@@ -47,8 +44,6 @@ KINDS = ["written", "refused: no algorithm", "refused: Oxum given", "refused: ba
          "refused after the payload: too large"]
 JUDGED = ["in a folder", "with a path that no folder takes", "valid", "not complete", "valid with its holes filled",
           "digests by coreutils", "digests by hashlib alone"]
-# A scheme, a colon, and more without blanks and controls [8].
-URL = re.compile("[A-Za-z][A-Za-z0-9+.-]*:[^\\x00- \\x7f]+")
 GOOD_URLS = ["http://example.org/a", "x:y", "a+b.c-1:%41", "https://example.org/\u00e9?a=b#c", "urn:*"]
 BAD_URLS = ["", "http", ":x", "http:", "1x:y", "x y:z", "http://example.org/a b", "http:\n", "http:\x7f", "h\u00e9:x",
     "a_b:c"]
@@ -61,109 +56,6 @@ LABELS = ["Source-Organization", "Contact-Name", "x", "Payload-Oxum-2", "a b", "
 OXUM_LABELS = ["Payload-Oxum", "payload-oxum", "PAYLOAD-OXUM", "payload-OXUM"]
 LINES = ["", "a", "a value of some words", " ", "  blanks  ", "\u00e9\u2028", "a:b", "100%", "\t"]
 FURTHER = ["a", "b: c", "more ", "\u00e9", "Payload-Oxum: 1.1", "*"]
-
-
-class Order:
-    """What to write: a tree, algorithms, elements and holes."""
-
-    def __init__(self, files, algorithms=("sha256",), elements=(), holes=()):
-        self.files = {path.encode(): octets for path, octets in dict(files).items()}
-        self.payload = {path: self.files[path] for path in sorted(self.files) if path.startswith(b"data/")}
-        self.algorithms = [name for name in ALGORITHMS if name in algorithms]
-        self.elements = list(elements)
-        self.holes = [(path.encode(), url) for path, url in holes]
-
-    def lines(self):
-        yield "clear"
-        yield from (f"file - {field(path)} {field(octets)}" for path, octets in self.files.items())
-        yield from (f"by {field(name.encode())}" for name in self.algorithms)
-        yield from (f"element - {field(label.encode())} {field(value.encode())}" for label, value in self.elements)
-        yield from (f"hole - {field(path)} {field(url.encode())}" for path, url in self.holes)
-        yield "write"
-
-    def refusal(self):
-        """The refusal that is reported before anything is written, or None [17.1]."""
-        if not self.algorithms:
-            return "no algorithm"
-        if any(label.lower() == "payload-oxum" for label, _ in self.elements):
-            return "Oxum given"
-        earlier = set()
-        for place, (path, url) in enumerate(self.holes):
-            if path not in self.payload or path in earlier or not URL.fullmatch(url):
-                return f"bad hole {place}"
-            earlier.add(path)
-        folders = {path[:end] for path in self.payload for end in range(len(path)) if path[end:end + 1] == b"/"}
-        clashes = folders.intersection(self.payload)
-        if clashes:
-            return "clash " + spelled(min(clashes)).decode()
-        return "too large" if self.is_too_large_empty() else None
-
-    def is_too_large_empty(self):
-        """Whether something is too large even if every payload file is empty [17.1]."""
-        empty = Order({path.decode(): b"" for path in self.payload}, self.algorithms, self.elements)
-        empty.holes = self.holes
-        return len(self.payload) > MOST_FILES or any(len(octets) > LARGEST_TAG_FILE for _, octets in empty.tag_files())
-
-    def answer(self):
-        """The first line, and the files that are there then [17.1, 17.2]."""
-        refusal = self.refusal()
-        if refusal:
-            return "refused: " + refusal, None
-        holes = dict(self.holes)
-        files = {path: octets for path, octets in self.payload.items() if path not in holes}
-        for name, octets in self.tag_files():
-            if len(octets) > LARGEST_TAG_FILE:
-                return "refused: too large", files
-            files[name] = octets
-        return "written " + self.oxum(), files
-
-    def oxum(self):
-        return f"{sum(map(len, self.payload.values()))}.{len(self.payload)}"
-
-    def tag_files(self):
-        """The tag files in the order of their names [17.3]."""
-        listed = {
-            b"bag-info.txt": "".join(
-                label + ": " + value.replace("\n", "\n ") + "\n"
-                for label, value in [*self.elements, ("Payload-Oxum", self.oxum())]).encode(),
-            b"bagit.txt": b"BagIt-Version: 1.0\nTag-File-Character-Encoding: UTF-8\n",
-        }
-        if self.holes:
-            listed[b"fetch.txt"] = b"".join(
-                b"%s %d %s\n" % (url.encode(), len(self.payload[path]), spelled(path)) for path, url in self.holes)
-        for name in self.algorithms:
-            listed[b"manifest-%s.txt" % name.encode()] = manifest(name, self.payload)
-        yield from listed.items()
-        for name in self.algorithms:
-            yield b"tagmanifest-%s.txt" % name.encode(), manifest(name, listed)
-
-    def printed(self):
-        """The expected output of the driver, line by line."""
-        yield "cleared"
-        yield from ["added"] * (len(self.files) + len(self.algorithms) + len(self.elements) + len(self.holes))
-        yield " | ".join(self.parts())
-
-    def parts(self):
-        """The parts of the answer to `write`."""
-        first, files = self.answer()
-        return [first] if files is None else [first, "data/",
-            *(f"{path.hex()} {files[path].hex()}" for path in sorted(files))]
-
-
-def field(octets, nothing="-"):
-    return octets.hex() or nothing
-
-
-def spelled(path):
-    """[4]"""
-    return path.replace(b"%", b"%25").replace(b"\n", b"%0A").replace(b"\r", b"%0D")
-
-
-def manifest(algorithm, files):
-    """[17.3] No path here begins with a mark or a blank."""
-    return b"".join(
-        b"%s  %s\n" % (hashlib.new(algorithm, files[path]).hexdigest().encode(), spelled(path))
-        for path in sorted(files))
 
 
 def random_order(rng):
@@ -314,11 +206,6 @@ def long_manifests():
     yield "a manifest of escapes with an octet too many", {**escaped, "data/" + "%" * 3642 + "nnn": b"x"}
 
 
-def fits_coreutils(line):
-    """Coreutils spell names with LF, CR, percent or a backslash differently."""
-    return b"%" not in line and b"\\" not in line
-
-
 class Held(reference.Bag):
     """A written bag that isn't in a folder."""
 
@@ -359,13 +246,12 @@ class Judges:
     def judged_otherwise(self, folder, files, lines, status):
         """Judges it with the second program, and with `bag check` if the bag is in a folder."""
         if Held(files).judge() != (lines, status):
-            return f"tests/reference.py says {Held(files).judge()} instead of {lines}"
+            return f"tests/model/reference.py says {Held(files).judge()} instead of {lines}"
         if folder is None:
             return None
-        ran = subprocess.run([self.program, "check", folder], capture_output=True, timeout=60, check=False)
-        wanted = "".join(line + "\n" for line in lines).encode()
-        if (ran.stdout, ran.returncode) != (wanted, status) or not is_explained(lines, status, ran.stderr):
-            return f"bag check prints {ran.stdout + ran.stderr} with {ran.returncode} instead of {wanted}"
+        ran = run([self.program, "check", folder])
+        if not is_answered(ran, lines, status):
+            return f"bag check prints {ran.stdout + ran.stderr} with {ran.returncode} instead of {lines}"
         return None
 
     def listed_otherwise(self, base, order, files):
@@ -385,15 +271,6 @@ class Judges:
         return None
 
 
-def verdict(order):
-    """What a check of the written bag has to print, and its status."""
-    missing = sorted(path for path, _ in order.holes)
-    if not missing:
-        return ["valid"], 0
-    lines = [f"manifest-{name}.txt: missing: {spelled(path).decode()}" for name in order.algorithms for path in missing]
-    return [*lines, "bag-info.txt: Payload-Oxum wrong", "not complete"], 1
-
-
 def unspelled(line):
     """The path of a line of a manifest."""
     _, _, text = line.removesuffix(b"\n").partition(b"  ")
@@ -405,55 +282,12 @@ def is_listed(algorithm, line, files):
     return octets is not None and hashlib.new(algorithm, octets).hexdigest().encode() == line.partition(b"  ")[0]
 
 
-def accepted_by_coreutils(base, algorithm, lines):
-    ran = subprocess.run([f"{algorithm}sum", "--check", "--strict", "--quiet", "-"], input=b"".join(lines), cwd=base,
-                         capture_output=True, timeout=60, check=False)
-    return (ran.returncode, ran.stdout, ran.stderr) == (0, b"", b"")
-
-
-def put(base, files):
-    """Whether the files are in the folder now: one with a path that is too long for the system isn't."""
-    os.makedirs(os.path.join(base, b"data"), exist_ok=True)
-    if any(len(path) > LONGEST_IN_FOLDER for path in files):
-        return False
-    for path, octets in files.items():
-        place = os.path.join(base, path)
-        os.makedirs(os.path.dirname(place), exist_ok=True)
-        with open(place, "xb") as file:
-            file.write(octets)
-    return True
-
-
-def written(orders, driver):
-    """What the driver prints, as a file of lines, and how it ended."""
-    printed = tempfile.TemporaryFile("w+", encoding="utf-8", newline="\n")
-    with tempfile.TemporaryFile("w+", encoding="utf-8", newline="\n") as asked:
-        for _, order in orders:
-            asked.writelines(line + "\n" for line in order.lines())
-        asked.seek(0)
-        ran = subprocess.run(driver, stdin=asked, stdout=printed, stderr=subprocess.PIPE, timeout=600, check=False)
-    printed.seek(0)
-    return printed, ran.returncode, ran.stderr
-
-
 def kind(order):
     """Of an answer. Paths and places don't matter."""
     first, files = order.answer()
     if first == "refused: too large" and files is not None:
         return "refused after the payload: too large"
     return re.sub("^(written|refused: bad hole|refused: clash).*", r"\1", first, flags=re.DOTALL)
-
-
-def difference(orders, printed):
-    """The first bag whose answer differs, with its lines; None if there is none."""
-    for name, order in orders:
-        for wanted in order.printed():
-            line = printed.readline()
-            if line != wanted + "\n":
-                told = f"{name}: {line[:1000]!r} is printed instead of {wanted[:1000]!r}."
-                return "\n".join([told, *(line[:1000] for line in order.lines())])
-    rest = printed.readline()
-    return f"After the last bag {rest!r} is printed." if rest else None
 
 
 def main(count, seed, program, *driver):
@@ -472,7 +306,7 @@ def main(count, seed, program, *driver):
         first, files = order.answer()
         fault = judges.fault(order, files) if first.startswith("written") else None
         if fault:
-            print(f"{name}: {fault}", *(line[:1000] for line in order.lines()), sep="\n")
+            print(f"{name}: {fault}", *(line[:1000] for line in asked(order)), sep="\n")
             return 1
     tried = {**{what: kinds[what] for what in KINDS}, **{what: judges.counts[what] for what in JUDGED}}
     print(f"{len(orders)} bags: all written alike", *(f"{count} {what}" for what, count in tried.items()), sep="\n")

@@ -3,7 +3,7 @@
 # judged by coreutils, by the program and by the reference.
 set -u
 cd "$(dirname -- "$0")/.." || exit 1
-. tests/common.bash
+. tests/lib/common.bash
 
 take_program
 build_driver

@@ -4,7 +4,7 @@
 # command on a ledger some allocations fail, spread over all; with the option --all every one fails.
 set -u
 cd "$(dirname -- "$0")/.." || exit 1
-. tests/common.bash
+. tests/lib/common.bash
 take_program
 # What was tried: runs of a test or of the program in which no allocation failed, and runs in which one did.
 runs=0
@@ -236,7 +236,7 @@ more_refusals() {
     [ "$refusals" -gt "$before" ] || echo "no allocation failed"
 }
 
-if cc -shared -fPIC -O1 -o "$work/no_memory.so" tests/no_memory.c 2>"$work/no cc"; then
+if cc -shared -fPIC -O1 -o "$work/no_memory.so" tests/lib/no_memory.c 2>"$work/no cc"; then
     bags='whole-format first-bag two-manifests several-faults oxum-wrong oxum-repeated unknown-algorithm listed-twice
         faulty-lines no-declaration no-manifest manifest-not-listed fetch-not-listed fetch-length'
     for bag in $bags; do
@@ -341,7 +341,7 @@ if cc -shared -fPIC -O1 -o "$work/no_memory.so" tests/no_memory.c 2>"$work/no cc
     allocations=60
     [ "${1-}" != --all ] || allocations=0
     expect 'no memory for the commands' 0 '' \
-        env TMPDIR="$work" sh -c 'python3 -B tests/failing_commands.py "$@" >"$0"' \
+        env TMPDIR="$work" sh -c 'python3 -B tests/lib/failing_commands.py "$@" >"$0"' \
         "$work/tried" "$program" "$allocations" allocations "$work/no_memory.so"
     cat "$work/tried"
     # Left out are tests that say whether an answer was right, and not what it was.

@@ -3,7 +3,7 @@
 # repository is the text that is known by its name.
 set -u
 cd "$(dirname -- "$0")/.." || exit 1
-. tests/common.bash
+. tests/lib/common.bash
 
 kit=$(sed -n 's/^kit: //p' release/NOTICES)
 if ! command -v rt >"$work/found"; then

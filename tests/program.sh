@@ -2,7 +2,7 @@
 # The program on folders that git can't keep, with other command lines, and on outputs that are closed or full.
 set -u
 cd "$(dirname -- "$0")/.." || exit 1
-. tests/common.bash
+. tests/lib/common.bash
 
 # new NAME: makes a folder with this name and a copy of the first bag.
 new() {

@@ -19,7 +19,8 @@ import sys
 import tempfile
 import tty
 
-from first_format import write_first
+from ledger_files import write_first
+from running import run
 
 DECLARATION = b"BagIt-Version: 1.0\nTag-File-Character-Encoding: UTF-8\n"
 MEBIBYTE = 1 << 20
@@ -27,6 +28,8 @@ UNITS = {"KiB": 1 << 10, "MiB": 1 << 20, "GiB": 1 << 30}
 LINE = re.compile(
     r"bag: ([a-z]+(?: in| the ledger,)?) ([0-9,]+)(?: of ([0-9,]+))? files,"
     r" ([0-9.]+) (KiB|MiB|GiB)(?: of ([0-9.]+ [KMG]iB))?")
+OPENING = re.compile(r"bag: opening the ledger of ([0-9.]+ [KMG]iB), ([0-9.]+) (KiB|MiB|GiB) read")
+READING = "reading the ledger,"
 # A line is shown after so many octets, and a file counts as so many besides its own.
 PER_LINE = 64 * MEBIBYTE
 PER_FILE = 64 << 10
@@ -92,7 +95,7 @@ class Place:
     def run(self, *words):
         """The command without a terminal."""
         self.count += 1
-        done = subprocess.run([self.program, *words], stdin=subprocess.DEVNULL, capture_output=True, timeout=300)
+        done = run([self.program, *words], timeout=300)
         return Ended(done.returncode, done.stdout, done.stderr)
 
     def watch(self, *words, output=None, stop=False, limit=None):
@@ -206,7 +209,7 @@ def follow(lines, work):
         assert weight >= last and files <= len(work.lengths), line
         last = weight
         counted.append(weight)
-    if (work.octets or 0) >= PER_LINE:
+    if (work.octets or 0) >= PER_LINE and work.told != READING:
         assert counted.pop(0) == 0, lines
     # None is missing, and none comes too soon. Reads are of at most 1 MiB.
     whole = len(work.lengths) * PER_FILE + ends[-1]
@@ -215,6 +218,20 @@ def follow(lines, work):
     for earlier, later in zip(counted, counted[1:]):
         assert later - earlier > PER_LINE - 2 * MEBIBYTE, (earlier, later)
     assert len(counted) >= 2, counted
+
+
+def follow_opening(lines, octets):
+    """Checks the lines of the opening of a ledger of this many octets. All of them are read once at least."""
+    if octets >= PER_LINE:
+        assert lines and lines[0].endswith(", 0 KiB read"), lines
+        lines = lines[1:]
+    for number, line in enumerate(lines, 1):
+        total, shown, unit = OPENING.fullmatch(line).groups()
+        assert total == size(octets), line
+        # What is beyond the decimal place is cut off, and a read is of at most 1 MiB.
+        lacking = number * PER_LINE - float(shown) * UNITS[unit]
+        assert -number * MEBIBYTE <= lacking <= UNITS[unit] / 10, line
+    assert len(lines) >= octets // PER_LINE, (lines, octets)
 
 
 def both(place, works, *words, again=lambda: None, status=0):
@@ -234,11 +251,13 @@ def both(place, works, *words, again=lambda: None, status=0):
         words, together.screen())
     assert watched.screen() == [], watched.screen()
     assert watched.erases_lines() and together.erases_lines(), (words, watched.said, together.said)
-    told = [(name, list(lines)) for name, lines in itertools.groupby(watched.lines(),
+    opening = list(itertools.takewhile(OPENING.fullmatch, watched.lines()))
+    told = [(name, list(lines)) for name, lines in itertools.groupby(watched.lines()[len(opening):],
         lambda line: LINE.fullmatch(line).group(1))]
     assert [name for name, _ in told] == [work.told for work in works], (words, watched.lines())
     for (_, lines), work in zip(told, works):
         follow(lines, work)
+    follow_opening(opening, works[0].octets if works[0].told == READING else 0)
 
 
 def many_files(place):
@@ -293,7 +312,7 @@ def many_files(place):
     for half, folder in zip((paths[:FILES // 2], paths[FILES // 2:]), halves):
         bag(folder, {path: (base / path).read_bytes() for path in half})
     both(place, [Work("taking in", FILES, lengths)], "intake", str(ledger), "t", *map(str, halves), again=anew)
-    reading = Work("reading the ledger,", None, lengths, octets=ledger.stat().st_size)
+    reading = Work(READING, None, lengths, octets=ledger.stat().st_size)
     both(place, [reading], "list", str(ledger))
     both(place, [reading], "report", str(ledger), "t")
     both(place, [reading], "begin", str(ledger), "t", str(base))
@@ -308,16 +327,16 @@ def many_files(place):
         ledger.unlink()
         write_first(ledger, {"t": files})
     older()
-    both(place, [Work("reading the ledger,", None, lengths, octets=ledger.stat().st_size)], "list", str(ledger),
+    both(place, [Work(READING, None, lengths, octets=ledger.stat().st_size)], "list", str(ledger),
         again=older)
     # The same with files that are long enough to be seen in what is told.
     files = {f"data/{number:03}": bytes(MEBIBYTE) for number in range(150)}
     older()
-    both(place, [Work("reading the ledger,", None, [MEBIBYTE] * 150, octets=ledger.stat().st_size)], "list",
+    both(place, [Work(READING, None, [MEBIBYTE] * 150, octets=ledger.stat().st_size)], "list",
         str(ledger), again=older)
     # Once they are moved, they are in pieces.
     assert place.run("list", str(ledger)).printed == b"t\n"
-    both(place, [Work("reading the ledger,", None, [MEBIBYTE] * 150, octets=ledger.stat().st_size)], "list", str(ledger))
+    both(place, [Work(READING, None, [MEBIBYTE] * 150, octets=ledger.stat().st_size)], "list", str(ledger))
 
 
 def millions(place):
@@ -339,7 +358,7 @@ def one_file(place):
     both(place, [Work("checking", 3, [len(DECLARATION), tags - len(DECLARATION), len(content)])], "check", str(base))
     assert place.run("begin", str(ledger), "t", str(base)).printed == b"new\n"
     assert place.run("intake", str(ledger), "t", str(base)).printed == b"taken data/f\n"
-    reading = Work("reading the ledger,", None, [len(content)], octets=ledger.stat().st_size)
+    reading = Work(READING, None, [len(content)], octets=ledger.stat().st_size)
     both(place, [reading], "report", str(ledger), "t")
     both(place, [reading, Work("auditing", None, [len(content)], octets=len(content))], "audit", str(ledger), "t")
 
@@ -360,7 +379,7 @@ def totals(place):
             log.touch()
             os.truncate(log, of_log)
         ended = place.watch("list", str(ledger))
-        assert ended.lines() == [f"bag: reading the ledger, 0 files, 0 KiB of {total}" for total in told], (
+        assert ended.lines() == [f"bag: opening the ledger of {total}, 0 KiB read" for total in told], (
             octets, ended.said)
         assert (ended.status, ended.printed) == (3, b"bag: not a ledger\n"), ended.printed
         ledger.unlink()

@@ -2,7 +2,7 @@
 # The line that shows on a terminal how far a command has come.
 set -u
 cd "$(dirname -- "$0")/.." || exit 1
-. tests/common.bash
+. tests/lib/common.bash
 
 take_program
 expect 'progress' 0 '124 commands' env TMPDIR="$work" python3 -B tests/progress.py "$program"

@@ -1,8 +1,8 @@
 #!/usr/bin/env python3
 """random_commands.py PROGRAM COUNT SEED [NUMBER]: makes COUNT runs of 8 to 20 random commands of the program on ledgers
-and folders. It compares each line and status with those of tests/reference_commands.py, each folder that a command
-makes, octet by octet, and after each run each ledger as sqlite3 reads it. The same seed makes the same runs; with
-NUMBER only that run is made. A run that differs is reported with its commands, and its folder is kept.
+and folders. It compares each line and status with those of tests/model/reference_commands.py, each folder that a
+command makes, octet by octet, and after each run each ledger as sqlite3 reads it. The same seed makes the same runs;
+with NUMBER only that run is made. A run that differs is reported with its commands, and its folder is kept.
 """
 import collections
 import os
@@ -10,21 +10,22 @@ import random
 import re
 import shutil
 import sqlite3
-import subprocess
 import sys
 import tempfile
 import types
 
-import deliveries
+import offers
 import random_bags
 import reference
 import reference_commands
 from explaining import is_explained
+from ledger_files import TO_FIRST, alter
 from random_bags import sometimes
 from reference_receiver import Receiver
+from running import run
 
-GOOD_NAMES = deliveries.GOOD_NAMES
-BAD_NAMES = [name for name in deliveries.BAD_NAMES if b"\0" not in name]
+GOOD_NAMES = offers.GOOD_NAMES
+BAD_NAMES = [name for name in offers.BAD_NAMES if b"\0" not in name]
 FOLDER_NAMES = [b"in", b"two words", b"line\nfeed", b"100%", b"\xc3\xa9", b"*", b".hidden", b"-"]
 # What is used in place of a folder, or isn't one.
 NO_FOLDERS = [b"", b"none", b"none/none", b"text", b"text/none", b"nowhere", b"empty"]
@@ -34,12 +35,6 @@ OTHER_LEDGERS = [b"new ledger", b"empty", b"no tables", b"text", b"cut", b"appli
                  b"text/ledger"]
 # The lines by which a ledger is refused.
 LEDGERS = ("bag: not a ledger", "bag: damaged", "bag: store")
-# Makes a ledger of format 2 one of format 1.
-FIRST = """CREATE TABLE item (transfer INTEGER NOT NULL REFERENCES transfer(id), path TEXT NOT NULL, size INTEGER NOT NULL,
-    body BLOB NOT NULL, PRIMARY KEY (transfer, path)) STRICT;
-    INSERT INTO item SELECT transfer, path, size, coalesce((SELECT joined(body) FROM (SELECT body FROM piece WHERE item = held.id
-    ORDER BY n)), x'')
-    FROM held; DROP TABLE piece; DROP TABLE held; UPDATE meta SET v = 1"""
 # What another program may have done to a copy of a ledger. Some of it leaves a ledger.
 CHANGES = [
     "UPDATE held SET size = size - 1", "UPDATE held SET size = size + 65536 WHERE id = (SELECT max(id) FROM held)",
@@ -53,9 +48,10 @@ CHANGES = [
     "UPDATE tag SET path = 'bag-info.txt' WHERE path = 'bagit.txt'",
     "UPDATE tag SET body = x'00' WHERE transfer = (SELECT max(id) FROM transfer)", "DELETE FROM tag",
     "INSERT INTO tag SELECT max(id), 'data/note', x'00' FROM transfer", "INSERT INTO tag VALUES (99999, 'note', x'00')",
-    "DELETE FROM transfer", "DELETE FROM transfer WHERE id = (SELECT max(id) FROM transfer)", *[FIRST] * 4,
-    FIRST + "; UPDATE item SET body = zeroblob(length(body))", FIRST + "; UPDATE item SET size = size - 1",
-    FIRST + "; INSERT INTO item VALUES (99999, 'data/none', 0, x'')", "UPDATE meta SET v = 1", "UPDATE meta SET v = 3",
+    "DELETE FROM transfer", "DELETE FROM transfer WHERE id = (SELECT max(id) FROM transfer)", *[TO_FIRST] * 4,
+    TO_FIRST + "; UPDATE item SET body = zeroblob(length(body))", TO_FIRST + "; UPDATE item SET size = size - 1",
+    TO_FIRST + "; INSERT INTO item VALUES (99999, 'data/none', 0, x'')",
+    "UPDATE meta SET v = 1", "UPDATE meta SET v = 3",
     "UPDATE meta SET k = 'ledger'", "DELETE FROM meta", "INSERT INTO meta VALUES ('more', 2)", "DROP TABLE piece",
     "DROP TABLE meta", "ALTER TABLE held RENAME COLUMN size TO length",
 ] + ["VACUUM", "UPDATE held SET id = id + 1000; UPDATE piece SET item = item + 1000",
@@ -63,19 +59,6 @@ CHANGES = [
      "CREATE TABLE more (x)",
      "UPDATE transfer SET id = id + 7; UPDATE tag SET transfer = transfer + 7; UPDATE held SET transfer = "
      "transfer + 7", "UPDATE transfer SET name = name || '%' || char(10) || ' T'"] * 3
-
-
-class Joined:
-    """Octets in sequence, for SQL."""
-
-    def __init__(self):
-        self.octets = b""
-
-    def step(self, octets):
-        self.octets += octets
-
-    def finalize(self):
-        return self.octets
 
 
 class Otherwise(Exception):
@@ -86,7 +69,7 @@ def offered(rng):
     """Tag files and payload files: most open a transfer, and of these half have something to fetch."""
     asks = sometimes(rng, 50)
     while True:
-        offer = deliveries.offered(rng)
+        offer = offers.offered(rng)
         receiver = Receiver()
         opens = receiver.begin(b"t", offer.tags) == "new"
         if not asks or (opens and receiver.transfers[b"t"].fetch):
@@ -146,26 +129,15 @@ class Run:
                 part.write(whole.read(self.rng.choice([1, 99, 5000])))
         elif ledger in (b"no tables", b"application"):
             tables = "CREATE TABLE meta (k TEXT, v TEXT); CREATE TABLE held (id INTEGER PRIMARY KEY, what TEXT)"
-            self.alter(ledger, tables + ("; DROP TABLE meta; DROP TABLE held" if ledger == b"no tables" else ""))
+            alter(ledger, tables + ("; DROP TABLE meta; DROP TABLE held" if ledger == b"no tables" else ""))
 
     def changed_ledger(self):
         """A copy of the ledger that another program has changed."""
         self.number += 1
         copy = b"copy %d" % self.number
         reference_commands.copy_ledger("ledger", copy.decode())
-        self.alter(copy, self.rng.choice(CHANGES))
+        alter(copy, self.rng.choice(CHANGES))
         return copy
-
-    @staticmethod
-    def alter(ledger, text):
-        database = sqlite3.connect(ledger)
-        database.execute("PRAGMA foreign_keys = OFF")
-        database.create_aggregate("joined", 1, Joined)
-        try:
-            database.executescript(text)
-        except sqlite3.IntegrityError:
-            pass
-        database.close()
 
     def new_name(self):
         self.number += 1
@@ -199,7 +171,7 @@ class Run:
 
     def tags_folder(self):
         rng, offer = self.rng, self.offer()
-        tags = rng.choice([offer.tags] * 14 + [offer.other_tags()] * 8 + [deliveries.Offer(rng).tags])
+        tags = rng.choice([offer.tags] * 14 + [offer.other_tags()] * 8 + [offers.Offer(rng).tags])
         files = {**dict(tags), **(dict(offer.payload) if sometimes(rng, 40) else {})}
         if sometimes(rng, 1):
             files[b"data"] = b""
@@ -222,7 +194,7 @@ class Run:
             if way < 7:
                 files[path] = octets
             elif way < 9:
-                files[path] = deliveries.changed(rng, octets)
+                files[path] = offers.changed(rng, octets)
             elif way == 9 and fits(path):
                 specials[path] = rng.choice([os.mkfifo, link(b"../../text"), link(b"none")])
             elif way == 10 and fits(path):
@@ -243,7 +215,7 @@ class Run:
         files = {**dict(offer.tags), **dict(offer.payload)}
         if offer.payload and sometimes(self.rng, 30):
             path, octets = self.rng.choice(offer.payload)
-            files[path] = deliveries.changed(self.rng, octets)
+            files[path] = offers.changed(self.rng, octets)
         return self.put(files, self.special(4), [b"data"])
 
     def new_folder(self):
@@ -323,8 +295,7 @@ class Run:
             if b"cut" in words and wanted.lines == ["bag: not a ledger"] else [wanted])
         # A process that opens and closes a file that it has locked unlocks it, so nothing else is done in the meantime.
         others = [another_program(ledger) for ledger in locked]
-        ran = subprocess.run([self.program, *words], stdin=subprocess.DEVNULL, capture_output=True, timeout=60,
-            check=False)
+        ran = run([self.program, *words])
         for other in others:
             other.close()
         self.judge_text(ran, allowed[-1] if ran.stdout == b"bag: store\n" else wanted)
@@ -443,7 +414,7 @@ def kinds():
     return [f"{command}: {kind}" for command, list_of in some.items() for kind in list_of]
 
 
-def run(program, seed, number):
+def one_run(program, seed, number):
     """What differed, if anything did; the commands; and how many times each kind of line occurred."""
     rng = random.Random(f"{seed} {number}")
     found = Run(rng, program)
@@ -463,7 +434,7 @@ def main(program, count, seed, *only):
     for number in numbers:
         work = tempfile.mkdtemp()
         os.chdir(work)
-        otherwise, done, counted = run(program, seed, number)
+        otherwise, done, counted = one_run(program, seed, number)
         if otherwise:
             print(f"Run {number} of seed {seed}, in {work}:", *done, otherwise, sep="\n")
             return 1

@@ -1,7 +1,7 @@
 #!/usr/bin/env python3
 """random_ledgers.py PROGRAM DRIVER [SECONDS [SEED [TRIED [NUMBER..]]]]: makes random ledgers in files, and has the
-program open them. `list`, `report` and `audit` must answer as tests/reference_commands.py does, so no ledger may be
-refused, and sqlite3 reads what each ledger holds, octet by octet.
+program open them. `list`, `report` and `audit` must answer as tests/model/reference_commands.py does, so no ledger may
+be refused, and sqlite3 reads what each ledger holds, octet by octet.
 
 It makes ledgers until SECONDS (60) have passed, but not less than 40, and writes the seed and what was tried to TRIED,
 or to standard output. If it fails, it prints the seed and the number of the ledger as well. With NUMBER.. only these
@@ -10,7 +10,7 @@ ledgers are made.
 A ledger has up to three transfers, and one in 40 has 300. Their names and paths have characters of every kind, and
 their files are empty, have a piece, a part of one, or several. Payload files come in any order, damaged, repeated,
 unlisted, and from readers that fail. Most ledgers are made by the driver, in up to three sittings, some of which are
-stopped at a call of a file of the database (tests/crashes.py describes how). The others are made by commands of the
+stopped at a call of a file of the database (tests/ledger.py describes how). The others are made by commands of the
 program, some of which are killed once the log of the ledger has grown. A ledger is opened after each sitting, and after
 some commands.
 """
@@ -27,12 +27,14 @@ import sys
 import tempfile
 import time
 
-import new_bags
 import reference_commands
-from chains import Ledger, damaged
-from crashes import NEVER, answered, found, known, ledger_of, run, steps
+import written_bags
+from compared import Ledger, damaged
+from events import NEVER, answered, run_driver, steps
 from explaining import is_explained
-from reopened import Transfer
+from ledger_rows import found
+from random_transfers import Transfer
+from reference_receiver import known, ledger_of
 
 LEAST, TRANSFERS = 40, 300
 VIEWED, WORKERS = 2, 4
@@ -82,7 +84,7 @@ class Home:
         if self.rng.randrange(3) == 0:
             calls = self.rng.randrange(8 + 4 * len(wanted))
             stop = self.rng.choice(["log", "database"]), calls, self.rng.choice(["cut", "killed"])
-        printed = run(self.driver, self.file, events, stop)
+        printed = run_driver(self.driver, self.file, events, stop)
         number = answered(events, printed, wanted)
         is_closed = printed[-1] == "closed"
         left = found(self.file)
@@ -135,12 +137,12 @@ class Home:
 
 def fits(path):
     """Whether a folder may have a file with this path."""
-    return all(len(part) <= 255 for part in path.split(b"/")) and len(path) <= new_bags.LONGEST_IN_FOLDER - 200
+    return all(len(part) <= 255 for part in path.split(b"/")) and len(path) <= written_bags.LONGEST_IN_FOLDER - 200
 
 
 def put(folder, files):
     """Those of the files that a folder may have."""
-    assert new_bags.put(os.fsencode(folder), {path: octets for path, octets in files if fits(path)})
+    assert written_bags.put(os.fsencode(folder), {path: octets for path, octets in files if fits(path)})
     return folder
 
 

@@ -3,7 +3,7 @@
 # LEDGER_SEED, by default another one each time.
 set -u
 cd "$(dirname -- "$0")/.." || exit 1
-. tests/common.bash
+. tests/lib/common.bash
 
 take_program
 build_driver

@@ -3,7 +3,7 @@
 # into the file, or fails if it ends in `gone`.
 set -u
 cd "$(dirname -- "$0")/.." || exit 1
-. tests/common.bash
+. tests/lib/common.bash
 top=$PWD
 
 # recipe TEXT: the block of docs/RECIPES.md that has this text. The program is looked for in a folder of this script.

@@ -1,17 +1,17 @@
 #!/usr/bin/env python3
 """refusals.py [--all] DRIVER PROGRAM LIBRARY: lists of calls, each a case that docs/FORMAT.md decides
-(tests/refusal_lists.py), in which one request for memory is refused, the first, the second and so on, by a library that
-is loaded before the driver's own (tests/no_memory.c); and in which one call of a device fails, the first, the second
-and so on, of its trees, sinks, readers, couriers, suppliers, keepers and writers, by a count in the driver. Each call
-of the driver is a line, so that it is known which call met the refusal, and all answers are judged
-(tests/refused_calls.py). Each list goes on with calls that ask for what is held, before the ledger is opened again and
-after it. They are run over a map in memory, over a database in memory and over one in two files in memory, and over a
-map whose calls fail. A call of a file fails alone, or it and all that follow until the ledger is opened again, which
-leaves what was written or only what a sync had reached; and sqlite3 reads what is left. Of a list over files that isn't
-short one of STRIDE calls of the log fails, and one of both files if all fail that follow; these begin elsewhere in each
-list. With --all each call fails. In some lists a map once gives something else than it holds; their answers are
-compared, and not judged. Then the reading of command lines is refused memory in the same way. It prints how many runs
-there were, for each list by keeper, and each answer that no refusal explains.
+(tests/data/refusal_lists.py), in which one request for memory is refused, the first, the second and so on, by a library
+that is loaded before the driver's own (tests/lib/no_memory.c); and in which one call of a device fails, the first, the
+second and so on, of its trees, sinks, readers, couriers, suppliers, keepers and writers, by a count in the driver. Each
+call of the driver is a line, so that it is known which call met the refusal, and all answers are judged
+(tests/model/refused_calls.py). Each list goes on with calls that ask for what is held, before the ledger is opened
+again and after it. They are run over a map in memory, over a database in memory and over one in two files in memory,
+and over a map whose calls fail. A call of a file fails alone, or it and all that follow until the ledger is opened
+again, which leaves what was written or only what a sync had reached; and sqlite3 reads what is left. Of a list over
+files that isn't short one of STRIDE calls of the log fails, and one of both files if all fail that follow; these begin
+elsewhere in each list. With --all each call fails. In some lists a map once gives something else than it holds; their
+answers are compared, and not judged. Then the reading of command lines is refused memory in the same way. It prints how
+many runs there were, for each list by keeper, and each answer that no refusal explains.
 
 The driver reads calls from standard input, one per line, and prints a line for each, which ends in ` !` if a call of a
 device failed in it. A call is a word, then a name and pairs of a path and octets, each in hex, or `-` if it is empty.
@@ -47,9 +47,9 @@ import subprocess
 import sys
 import tempfile
 
-from deliveries import line
 from refusal_lists import lists, stores
 from refused_calls import Otherwise, World
+from running import line, run
 
 DEVICES = ["tree", "sink", "reader", "courier", "supplier", "writer"]
 # The devices of a keeper that fails, and of files: one call of either, or from one call on all of both, which are left
@@ -97,7 +97,7 @@ class Runs:
         one was refused."""
         variables = {"LD_PRELOAD": self.library, "REFUSE": str(refuse), "ASKED": self.path("asked"),
             "REFUSED": self.path("refused")}
-        ran = subprocess.run(words, env=variables, capture_output=True, timeout=60, check=False, **options)
+        ran = run(words, env=variables, **options)
         is_refused = os.path.exists(self.path("refused"))
         if is_refused:
             os.unlink(self.path("refused"))

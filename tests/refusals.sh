@@ -4,11 +4,11 @@
 # sqlite3 reads what is left in files. With --all no call of a file is passed over.
 set -u
 cd "$(dirname -- "$0")/.." || exit 1
-. tests/common.bash
+. tests/lib/common.bash
 
 take_program
 build_driver
-if cc -shared -fPIC -O1 -o "$work/no_memory.so" tests/no_memory.c 2>"$work/no cc"; then
+if cc -shared -fPIC -O1 -o "$work/no_memory.so" tests/lib/no_memory.c 2>"$work/no cc"; then
     # It prints what it tried, or each list that is answered otherwise.
     expect 'each request for memory refused, and each call of a device' 0 '' \
         env TMPDIR="$work" sh -c 'out=$1; shift; python3 -B tests/refusals.py "$@" >"$out"' \

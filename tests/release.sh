@@ -4,7 +4,7 @@
 # with stand-ins for the programs, the kit and the system.
 set -u
 cd "$(dirname -- "$0")/.." || exit 1
-. tests/common.bash
+. tests/lib/common.bash
 top=$PWD
 
 # The program stands on the crate `low`, and neither on its tests nor on `other`. In the order of octets Z is before a,
@@ -86,7 +86,7 @@ digest() (
     sources_digest
 )
 definition() {
-    python3 -B "$top/tests/sources_digest.py" "$repository"
+    python3 -B "$top/tests/release.py" "$repository"
 }
 sha256() {
     sha256sum <"$1" | sed 's/ .*//'

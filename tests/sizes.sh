@@ -1,10 +1,10 @@
 #!/usr/bin/env bash
 # Sizes and numbers at a limit and just above it: what is too large is told as that, and not as want of memory. And
-# files whose lengths are those of pieces, or nearly. Limits that program.sh, commands.sh, hostile.py and deliveries.py
+# files whose lengths are those of pieces, or nearly. Limits that program.sh, commands.sh, hostile.sh and deliveries.sh
 # have are left out here.
 set -u
 cd "$(dirname -- "$0")/.." || exit 1
-. tests/common.bash
+. tests/lib/common.bash
 
 take_program
 

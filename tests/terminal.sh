@@ -2,7 +2,7 @@
 # What is printed on a terminal: what it would obey is escaped, octet by octet. In a pipe or a file each octet stays.
 set -u
 cd "$(dirname -- "$0")/.." || exit 1
-. tests/common.bash
+. tests/lib/common.bash
 
 # on_terminal COMMAND..: the command with a terminal of its own as standard output, which puts a CR before each LF.
 on_terminal() {
@@ -47,7 +47,7 @@ expect 'names in a pipe' 0 "$piped" sh -c './bag check "$1" | cat' sh "$work/odd
 expect 'names on a terminal' 1 "$shown" on_terminal ./bag check "$work/odd"
 expect 'a valid bag on a terminal' 0 valid on_terminal ./bag check examples/first-bag
 # Characters of two to four octets at the end of each buffer, and each that would be obeyed.
-python3 -B tests/shown.py "$work/each" >"$work/each.shown" || exit
+python3 -B tests/lib/shown.py "$work/each" >"$work/each.shown" || exit
 expect 'each character on a terminal' 1 "$(cat "$work/each.shown")" on_terminal ./bag check "$work/each"
 
 expect 'a word on a terminal' 64 'unknown algorithm a%1B[8m%0A%E2%80%8Fb' \

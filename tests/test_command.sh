@@ -1,22 +1,22 @@
 #!/usr/bin/env bash
 # The script `test`: which parts it runs, what its last line and its status say, and that nothing is skipped where
-# CI=true. The kit and the scripts are stand-ins. And tests/README.md: each script has one row, and no row names a file
-# that is not there.
+# CI=true. The kit and the scripts are stand-ins. And tests/README.md: each script has one row, and no file is named that
+# is not there.
 set -u
 cd "$(dirname -- "$0")/.." || exit 1
-. tests/common.bash
+. tests/lib/common.bash
 
 repository="$work/a repository"
-mkdir -p "$repository"/{tests,kit} "$repository"/crates/bag_{program,driver}/out
+mkdir -p "$repository"/{tests/lib,kit} "$repository"/crates/bag_{program,driver}/out
 cp test "$repository"
-cp tests/common.bash "$repository/tests"
+cp tests/lib/common.bash "$repository/tests/lib"
 # stands_for NAME LINE..: a script of these lines.
 stands_for() {
     printf '%s\n' '#!/usr/bin/env bash' "${@:2}" >"$repository/$1"
     chmod +x "$repository/$1"
 }
 stands_for tests/refusals.sh 'exit 0'
-stands_for tests/driven.sh 'set -u' '. tests/common.bash' 'build_driver' 'expect driven 0 "" true' 'finish'
+stands_for tests/driven.sh 'set -u' '. tests/lib/common.bash' 'build_driver' 'expect driven 0 "" true' 'finish'
 
 # tested KIT ARGUMENT..: what `test` prints at its end, and its status. KIT is a folder with the kit, or nothing.
 tested() {
@@ -54,12 +54,12 @@ expect 'CI=true without the kit' 0 '0 passed, 1 failed, 0 skipped' demanded
 rows() {
     sed -n 's/^| `\([^`]*\.sh\)` |.*/tests\/\1/p' tests/README.md | LC_ALL=C sort
 }
-# named_only: the files that its rows name, and that are not there.
+# named_only: the files that it names, and that are not there.
 named_only() {
-    sed -n '/^|/p' tests/README.md | grep -oE '`[^ `/]+\.[a-z]+`' | tr -d '`' | while read -r name; do
+    grep -oE '`[^ `]+\.[a-z]+`' tests/README.md | tr -d '`' | while read -r name; do
         [ -f "tests/$name" ] || echo "$name"
     done
 }
 expect 'each script has one row' 0 "$(printf '%s\n' tests/*.sh | LC_ALL=C sort)" rows
-expect 'no row names a file that is not there' 0 '' named_only
+expect 'no file is named that is not there' 0 '' named_only
 finish

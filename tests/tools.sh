@@ -3,7 +3,7 @@
 # judges.
 set -u
 cd "$(dirname -- "$0")/.." || exit 1
-. tests/common.bash
+. tests/lib/common.bash
 
 take_program
 
@@ -49,7 +49,7 @@ for folder in "$work"/examples/*/; do
     name=$(basename "$folder")
     printed=$(./bag check "$folder")
     status=$?
-    expect "$name: the reference agrees" "$status" "$printed" python3 -B tests/reference.py "$folder"
+    expect "$name: the reference agrees" "$status" "$printed" python3 -B tests/model/reference.py "$folder"
     if [ "$printed" = valid ]; then
         valid=$((valid + 1))
         expect "$name: coreutils agree" 0 '' listed_digests "$folder"
@@ -134,6 +134,6 @@ manifest-sha256.txt: digest: data/a.txt
 manifest-sha512.txt: digest: data/a.txt
 complete, not valid" ./bag check "$work/whole"
 
-expect 'random bags' 0 '4000 bags: all judged alike' python3 -B tests/random_bags.py "$program" 1 4000
-expect 'the second receiver, on worked cases' 0 '165 worked answers: 0 otherwise' python3 -B tests/worked_answers.py
+expect 'random bags' 0 '4000 bags: all judged alike' python3 -B tests/tools.py "$program" 1 4000
+expect 'the second receiver, on worked cases' 0 '165 worked answers: 0 otherwise' python3 -B tests/data/worked_answers.py
 finish

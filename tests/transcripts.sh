@@ -4,7 +4,7 @@
 # clone.
 set -u
 cd "$(dirname -- "$0")/.." || exit 1
-. tests/common.bash
+. tests/lib/common.bash
 top=$PWD
 
 take_program

@@ -2,7 +2,7 @@
 # Two commands on one ledger at the same moment: what either answered is held afterwards.
 set -u
 cd "$(dirname -- "$0")/.." || exit 1
-. tests/common.bash
+. tests/lib/common.bash
 
 take_program
 if strace -o "$work/calls" true 2>"$work/no strace"; then

@@ -1,4 +1,4 @@
-//! Work on a ledger that stops at a call of one of its two files, for `tests/crashes.py`.
+//! Work on a ledger that stops at a call of one of its two files, for `tests/ledger.py`.
 use crate::breaker::{Breaker, Device};
 use crate::breaking_file::BreakingFile;
 use crate::file_keeper::{FileKeeper, LedgerFiles};

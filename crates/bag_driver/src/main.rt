@@ -1,7 +1,7 @@
 //! Makes the calls that a list asks for, for the scripts in `tests/`.
 //!
 //! `bag_driver stop FILE CALLS HOW SEED DATABASE` does the work on standard input in the ledger of a database, and
-//! stops at a call of one of its files; `tests/crashes.py` describes it.
+//! stops at a call of one of its files; `tests/ledger.py` describes it.
 //!
 //! `bag_driver ALG PIECES` computes the digest of this many pieces of 65,536 octets, for the scripts in `bench/`.
 //!

@@ -1,15 +1,14 @@
 #!/usr/bin/env python3
 """worked_answers.py [DRIVER..]: worked cases of a receiver, each with the answer that section 16 of docs/FORMAT.md
-requires. They are asked of tests/reference_receiver.py, and with DRIVER.. of the driver, which reads events from
+requires. They are asked of tests/model/reference_receiver.py, and with DRIVER.. of the driver, which reads events from
 standard input (tests/deliveries.py describes them). It prints how many answers are wrong. The digests are those of
 `abc` and of the empty message.
 """
 import hashlib
-import subprocess
 import sys
 
 import reference_receiver
-from deliveries import line
+from running import ask, line
 from small_bags import A_MD5, A_SHA256, DECLARATION, E_SHA256, MANIFEST, OF_0_97
 
 TAGS = [(b"bagit.txt", DECLARATION), (b"manifest-sha256.txt", MANIFEST)]
@@ -41,45 +40,44 @@ class Driven:
     def __init__(self):
         self.events = [("start",)]
 
-    def ask(self, word, *fields):
+    def answer(self, word, *fields):
         self.events.append((word, *fields))
-        asked = "".join(f"{line(event)}\n" for event in self.events).encode()
-        ran = subprocess.run(self.driver, input=asked, capture_output=True, timeout=600, check=False)
+        ran = ask(self.driver, map(line, self.events))
         printed = ran.stdout.decode().split("\n")
         if ran.returncode or ran.stderr or len(printed) != len(self.events) + 1:
             return f"the driver ends with {ran.returncode} and says {ran.stderr}"
         return printed[-2]
 
     def begin(self, name, files):
-        return self.ask("begin", name, *(field for file in files for field in file))
+        return self.answer("begin", name, *(field for file in files for field in file))
 
     def deliver(self, *fields):
-        return self.ask("deliver", *fields)
+        return self.answer("deliver", *fields)
 
     def read(self, *fields):
-        return self.ask("read", *fields)
+        return self.answer("read", *fields)
 
     def fail(self, *fields):
-        return self.ask("break", *fields)
+        return self.answer("break", *fields)
 
     def run(self, name, items, word="run"):
-        *answers, end = self.ask(word, name, *(field for item in items for field in item)).split(" | ")
+        *answers, end = self.answer(word, name, *(field for item in items for field in item)).split(" | ")
         return answers, end
 
     def bring(self, name, items, breaks=None):
         return self.run(name, items, f"bring-{breaks}" if breaks else "bring")
 
     def report(self, name):
-        return self.ask("report", name).split(" | ")
+        return self.answer("report", name).split(" | ")
 
     def audit(self, name):
-        return self.ask("audit", name).split(" | ")
+        return self.answer("audit", name).split(" | ")
 
     def names(self):
-        return self.ask("names").encode().split()
+        return self.answer("names").encode().split()
 
     def reopen(self):
-        return self.ask("reopen")
+        return self.answer("reopen")
 
 
 def begun(receiver, *changes):

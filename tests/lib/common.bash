@@ -4,6 +4,8 @@
 
 # With this set Python would pass over what the scripts assert.
 unset PYTHONOPTIMIZE
+# Where the Python files find those that they share.
+export PYTHONPATH=$PWD/tests/lib:$PWD/tests/model:$PWD/tests/data
 work=$(mktemp -d)
 trap 'rm -rf -- "$work"' EXIT
 passed=0

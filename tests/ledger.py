@@ -1,5 +1,5 @@
 #!/usr/bin/env python3
-"""crashes.py DRIVER TRIED: stops work on a ledger before each call of each of the two files of its database, and judges
+"""ledger.py DRIVER TRIED: stops work on a ledger before each call of each of the two files of its database, and judges
 what is left. What was tried is written to TRIED.
 
 The driver is run as `DRIVER stop FILE CALLS HOW SEED DATABASE`. It opens the ledger in the database or makes one,
@@ -11,47 +11,28 @@ the log.
 
 The work opens three transfers, and puts payload files by readers, in runs, from couriers and from suppliers. Its steps
 are that the ledger is made, that a transfer is opened, and each delivery. After a stop sqlite3 reads what is left, file
-by file and octet by octet. tests/reference_receiver.py says what there is after each step: it must be what there was
-after the last step that was answered, or after the next one. Then the same work is given again, without a stop; each
-answer is that of the second program, and all transfers are valid, also if they are audited. In the same way the opening
-of ledgers that were closed, killed or cut off is stopped, which must leave them as they were; and the opening of a
-ledger of format 1, which must leave it in the one format or in the other.
+by file and octet by octet. tests/model/reference_receiver.py says what there is after each step: it must be what there
+was after the last step that was answered, or after the next one. Then the same work is given again, without a stop;
+each answer is that of the second program, and all transfers are valid, also if they are audited. In the same way the
+opening of ledgers that were closed, killed or cut off is stopped, which must leave them as they were; and the opening
+of a ledger of format 1, which must leave it in the one format or in the other.
 """
-import hashlib
 import itertools
 import pathlib
 import random
 import shutil
 import sqlite3
-import subprocess
 import sys
 import tempfile
 
-from deliveries import answer, line
-from first_format import write_first
-from reference_receiver import Receiver
+from events import answered, run_driver, steps, tag_files
+from ledger_files import PIECE, write_first
+from ledger_rows import found
+from reference_receiver import Receiver, known, ledger_of
 
-DECLARATION = b"BagIt-Version: 1.0\nTag-File-Character-Encoding: UTF-8\n"
-# The tables of format 1, and those of format 2 in a new ledger and in one that was moved.
-FIRST, SECOND = ["item", "meta", "tag", "transfer"], ["held", "meta", "piece", "tag", "transfer"]
-MOVED = sorted({*FIRST, *SECOND})
-OWNERS = {"tag": ("transfer", "transfer"), "item": ("transfer", "transfer"), "held": ("transfer", "transfer"),
-    "piece": ("item", "held")}
 NAMES = [b"first", b"second", b"third"]
-# Events that make several deliveries, each with an answer of its own.
-RUNS = ["run", "bring-first", "fetch"]
-NEVER = 2**64 - 1
-PIECE = 65_536
 # How far apart the stops of the opening of a larger ledger are, in calls.
 STRIDE = 17
-
-
-def manifest(files):
-    return b"".join(b"%s  %s\n" % (hashlib.sha256(octets).hexdigest().encode(), path) for path, octets in files)
-
-
-def tag_files(files, *more):
-    return [(b"bagit.txt", DECLARATION), (b"manifest-sha256.txt", manifest(files)), *more]
 
 
 def work():
@@ -82,143 +63,12 @@ def work():
     ]
 
 
-def parts(event, text):
-    """The answers to the deliveries of a run, each alone; the answer to another event is one. A fetch may fail before
-    it asks for any of its files."""
-    if event[0] == "fetch" and text == "refused: store":
-        return [text] * (len(event) // 2)
-    return text.split(" | ") if event[0] in RUNS else [text]
-
-
-def ledger_of(receiver):
-    return {name: (dict(transfer.tags), dict(transfer.held)) for name, transfer in receiver.transfers.items()}
-
-
-def each_alone(event):
-    """The event as several, each with one delivery, if it makes several of them."""
-    word, *fields = event
-    if word not in RUNS:
-        return [event]
-    files = list(zip(fields[1::2], fields[2::2]))
-    first = "break" if word == "bring-first" else "deliver"
-    return [(first if place == 0 else "deliver", fields[0], *file) for place, file in enumerate(files)]
-
-
-def fetch(receiver, name, supply):
-    """For each entry of `fetch.txt` whose file isn't held its answer."""
-    transfer = receiver.transfers[name]
-    for number, path in enumerate(transfer.fetch, 1):
-        if path not in transfer.held:
-            yield f"{number} {path.decode()} {receiver.deliver(name, path, supply[path])}"
-
-
-def steps(receiver, events):
-    """For each step its answer, and what is held after it. The end of a run is a step too."""
-    for event in events:
-        if event[0] == "fetch":
-            answers = fetch(receiver, event[1], dict(zip(event[2::2], event[3::2])))
-        else:
-            answers = (answer(receiver, *one) for one in each_alone(event))
-        for text in answers:
-            yield text, ledger_of(receiver)
-        if event[0] in RUNS:
-            yield "done", ledger_of(receiver)
-
-
-def found(database):
-    """What is held in the ledger by sqlite3, which reads a copy; None if there are no tables. Each row belongs to
-    something."""
-    # The first page of a new database is written with another first octet, which sqlite3 doesn't accept, and that octet
-    # comes last.
-    if database.read_bytes()[:16] == b"\0QLite format 3\0":
-        assert database.stat().st_size <= 4_096
-        return None
-    with tempfile.TemporaryDirectory(dir=database.parent) as folder:
-        copy = pathlib.Path(folder) / "copy"
-        for end in ("", "-wal"):
-            if pathlib.Path(f"{database}{end}").exists():
-                shutil.copy(f"{database}{end}", f"{copy}{end}")
-        opened = sqlite3.connect(copy)
-        try:
-            return rows(lambda text, *fields: opened.execute(text, fields).fetchall())
-        finally:
-            opened.close()
-
-
-def rows(ask):
-    assert ask("PRAGMA integrity_check") == [("ok",)] and ask("PRAGMA foreign_key_check") == []
-    tables = sorted(name for (name,) in ask("SELECT name FROM sqlite_schema WHERE type = 'table'"))
-    if not tables:
-        return None
-    [(name, number)] = ask("SELECT k, v FROM meta")
-    assert name == "bag-ledger" and (number, tables) in [(1, FIRST), (2, SECOND), (2, MOVED)], (number, tables)
-    assert tables != MOVED or ask("SELECT * FROM item") == []
-    for table, (column, owner) in OWNERS.items():
-        if table in tables:
-            assert ask(f"SELECT count(*) FROM {table} WHERE {column} NOT IN (SELECT id FROM {owner})") == [(0,)], table
-    ledger = {}
-    for transfer, name in ask("SELECT id, name FROM transfer"):
-        tags = {path.encode(): body for path, body in ask("SELECT path, body FROM tag WHERE transfer = ?", transfer)}
-        ledger[name.encode()] = tags, {}
-        if number == 1:
-            ledger[name.encode()][1].update((path.encode(), body)
-                for path, body in ask("SELECT path, body FROM item WHERE transfer = ?", transfer))
-            continue
-        for item, path, size in ask("SELECT id, path, size FROM held WHERE transfer = ?", transfer):
-            ledger[name.encode()][1][path.encode()] = content(ask, item, size)
-    return ledger
-
-
-def content(ask, item, size):
-    """The octets of a payload file. Its pieces are numbered from 0, and are full except for the last."""
-    pieces = ask("SELECT n, body FROM piece WHERE item = ? ORDER BY n", item)
-    octets = b"".join(body for _, body in pieces)
-    assert len(octets) == size, (item, size)
-    assert pieces == [(n, octets[at : at + PIECE]) for n, at in enumerate(range(0, size, PIECE))], item
-    return octets
-
-
-def run(driver, database, events, stop=("log", NEVER, "killed"), seeds=itertools.count()):
-    """The lines that the driver prints."""
-    file, calls, how = stop
-    words = [driver, "stop", file, str(calls), how, str(next(seeds)), database]
-    ran = subprocess.run(words, input="".join(f"{line(event)}\n" for event in events).encode(), capture_output=True,
-        timeout=60, check=False)
-    assert ran.returncode == 0 and not ran.stderr, (stop, ran)
-    return ran.stdout.decode().split("\n")[:-1]
-
-
-def answered(events, printed, wanted):
-    """How many steps were answered, the opening included. From the first that wasn't, no answer may promise
-    anything."""
-    if printed == ["the store failed"]:
-        return 0
-    assert printed[0] == "opened" and len(printed) == len(events) + 2, printed
-    given = [part for event, text in zip(events, printed[1:]) for part in parts(event, text)]
-    assert len(given) == len(wanted), (given, wanted)
-    number = next((place for place, (text, _) in enumerate(wanted) if given[place] != text), len(given))
-    for place in range(number, len(given)):
-        changes = wanted[place][1] != wanted[place - 1][1] if place else True
-        assert given[place].endswith("refused: store") or (given[place] == wanted[place][0] and not changes), (
-            place, given[place])
-    return 1 + number
-
-
-def known(ledger):
-    """The second program, with this ledger."""
-    receiver = Receiver()
-    for name, (tags, held) in (ledger or {}).items():
-        assert receiver.begin(name, list(tags.items())) == "new"
-        assert all(receiver.deliver(name, path, octets) == "taken" for path, octets in held.items())
-    return receiver
-
-
 def again(driver, database, left, events):
     """Does the whole work once more with no stop: each answer is right, and in the end everything is held."""
     more = [*events, *((word, name) for word in ("report", "audit") for name in NAMES)]
     receiver = known(left)
     wanted = list(steps(receiver, more))
-    printed = run(driver, database, more)
+    printed = run_driver(driver, database, more)
     assert answered(more, printed, wanted) == 1 + len(wanted) and printed[-1] == "closed", printed
     assert printed[-7:-1] == ["valid"] * 6, printed
     assert found(database) == ledger_of(receiver)
@@ -231,7 +81,7 @@ def stop_work(driver, folder, events, tried, kept):
     for file, how in itertools.product(("log", "database"), ("cut", "killed")):
         for calls in itertools.count():
             database = folder / f"{file} {calls} {how}"
-            printed = run(driver, database, events, (file, calls, how))
+            printed = run_driver(driver, database, events, (file, calls, how))
             number = answered(events, printed, wanted)
             left = found(database)
             assert left in states[number : number + 2], (file, calls, how, number, left and left.keys())
@@ -274,13 +124,13 @@ def stop_openings(driver, folder, kept, tried):
             for calls in itertools.count(place, STRIDE if place else 1):
                 database = folder / "opened"
                 copy(start, database)
-                printed = run(driver, database, events, (file, calls, how))
+                printed = run_driver(driver, database, events, (file, calls, how))
                 number = answered(events, printed, wanted)
                 after = found(database)
                 assert after == left or (left is None and after == {} and number <= 1) or (left is None and number), (
                     start, file, calls, how)
                 tried["openings"] += 1
-                whole = run(driver, database, events)
+                whole = run_driver(driver, database, events)
                 assert answered(events, whole, wanted) == 1 + len(wanted) and whole[-1] == "closed", (
                     start, file, calls, how, whole)
                 assert found(database) == (left or {}), (start, file, calls, how)
@@ -315,13 +165,13 @@ def stop_moves(driver, folder, tried):
         for calls in itertools.count():
             database = folder / "moved"
             copy(start, database)
-            printed = run(driver, database, events, (file, calls, how))
+            printed = run_driver(driver, database, events, (file, calls, how))
             number = answered(events, printed, wanted)
             assert found(database) == held, (file, calls, how)
             formats.add(number_of_format(database))
             assert not number or number_of_format(database) == 2, (file, calls, how)
             tried["moves"] += 1
-            whole = run(driver, database, events)
+            whole = run_driver(driver, database, events)
             assert answered(events, whole, wanted) == 1 + len(wanted) and whole[-1] == "closed", (
                 file, calls, how, whole)
             assert found(database) == held and number_of_format(database) == 2, (file, calls, how)
@@ -352,7 +202,7 @@ def count_rows(driver, folder):
     ]
     database = folder / "rows"
     for event, text, wanted in cases:
-        printed = run(driver, database, [event])
+        printed = run_driver(driver, database, [event])
         assert printed == ["opened", text, "closed"], (event[0], printed)
         opened = sqlite3.connect(database)
         rows = tuple(opened.execute(f"SELECT count(*) FROM {table}").fetchone()[0] for table in ("held", "piece"))

@@ -1,9 +1,8 @@
 """Judges the answers to a list of calls, in which one request for memory may have been refused, or one call of a device
-may have failed. It was written from docs/FORMAT.md, with the second programs for it (tests/reference.py,
-reference_receiver.py, new_bags.py, feeds.py). What a refusal may do is this: the call that met it answers what is due,
-or that it was refused, and then nothing has changed; all other calls answer what is due for what is held. After a
-failure of its store a ledger answers nothing else until it is opened again, and then the call in which the store failed
-was done, or not.
+may have failed. It was written from docs/FORMAT.md, with the second programs for it beside it. What a refusal may do is
+this: the call that met it answers what is due, or that it was refused, and then nothing has changed; all other calls
+answer what is due for what is held. After a failure of its store a ledger answers nothing else until it is opened
+again, and then the call in which the store failed was done, or not.
 
 tests/refusals.py describes the calls and their answers.
 """
@@ -16,13 +15,13 @@ import re
 import sqlite3
 import tempfile
 
-import feeds
-import new_bags
 import reference
 import reference_receiver
-from crashes import known, ledger_of, rows
-from reference_receiver import Refused, printed
-from small_bags import DECLARATION
+import reference_texts
+import reference_writer
+from ledger_rows import rows
+from reference_receiver import Refused, known, ledger_of, printed
+from reference_writer import DECLARATION
 
 ALGORITHMS = list(map(bytes.decode, reference.ALGORITHMS))
 NO_MEMORY = "refused: memory"
@@ -302,7 +301,7 @@ class World:
 
     def order(self, *means):
         """A bag by these algorithms, with these elements and holes."""
-        return new_bags.Order({path.decode(): octets for path, octets in self.files.items()}, *means)
+        return reference_writer.Order({path.decode(): octets for path, octets in self.files.items()}, *means)
 
     def judge_write(self, _, __, answer):
         self.judge_files(answer, " | ".join(self.order(self.algorithms, self.elements, self.holes).parts()))
@@ -560,7 +559,7 @@ def are_part_of(found, due):
 
 def reading(name, version, octets):
     """What is read from a tag file, without the number of its lines."""
-    return feeds.Text(name, version, octets).reading().partition(" ")[2]
+    return reference_texts.Text(name, version, octets).reading().partition(" ")[2]
 
 
 def told(status, lines):

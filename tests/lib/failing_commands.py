@@ -5,25 +5,25 @@ one command, spread over all, and for the last allocations of a new ledger; 0 fo
 
 After each run the answer is the normal one, or it names what failed. What was answered is held, as sqlite3 reads it,
 and nothing else except what failed. Then the same command and a report, with nothing failing, answer as
-tests/reference_commands.py does for what is held. At the end it prints how many commands were run and how often one
-failed.
+tests/model/reference_commands.py does for what is held. At the end it prints how many commands were run and how often
+one failed.
 """
 import collections
 import copy
 import os
 import re
 import shutil
-import subprocess
 import sys
 import tempfile
 
-import new_bags
-import random_commands
 import reference
 import reference_commands
+import written_bags
 from explaining import is_explained
-from reference_commands import Answer, Commands, read_ledger
-from small_bags import DECLARATION
+from ledger_files import DECLARATION, TO_FIRST, alter
+from reference_commands import Commands, read_ledger
+from reference_writer import manifest
+from running import is_answered, run
 
 # A path that is longer than most names, for which there must be room before it is looked up.
 LONG = b"folder/" * 200 + b"file"
@@ -32,10 +32,10 @@ PAYLOAD = {b"data/a.txt": b"abc", b"data/e.txt": b"", b"data/" + LONG: b"xyz", b
 FETCH = (b"http://example.org/e 0 data/e.txt\nhttp://example.org/l 3 data/" + LONG +
          b"\nhttp://example.org/k - data/k/big\nhttp://example.org/z - data/z%25\n")
 TAGS = {b"bagit.txt": DECLARATION, b"bag-info.txt": b"Payload-Oxum: 70013.5\n", b"fetch.txt": FETCH,
-        b"manifest-md5.txt": new_bags.manifest("md5", PAYLOAD),
-        b"manifest-sha256.txt": new_bags.manifest("sha256", PAYLOAD)}
-TAGS[b"tagmanifest-sha256.txt"] = new_bags.manifest("sha256", TAGS)
-OTHER_TAGS = {b"bagit.txt": DECLARATION, b"manifest-sha256.txt": new_bags.manifest("sha256", {b"data/a.txt": b"abc"})}
+        b"manifest-md5.txt": manifest("md5", PAYLOAD),
+        b"manifest-sha256.txt": manifest("sha256", PAYLOAD)}
+TAGS[b"tagmanifest-sha256.txt"] = manifest("sha256", TAGS)
+OTHER_TAGS = {b"bagit.txt": DECLARATION, b"manifest-sha256.txt": manifest("sha256", {b"data/a.txt": b"abc"})}
 FOLDERS = {
     "sender": TAGS,
     "whole": {**TAGS, **PAYLOAD},
@@ -84,16 +84,15 @@ class Otherwise(Exception):
 def prepare(program):
     """Makes the folders and ledgers that the commands find, in the current folder."""
     for name, files in FOLDERS.items():
-        assert new_bags.put(os.fsencode(name), files)
+        assert written_bags.put(os.fsencode(name), files)
         if not any(path.startswith(b"data/") for path in files):
             os.rmdir(os.path.join(name, "data"))
     for name, commands in LEDGERS.items():
         for command, transfer, *folders in commands:
-            ran = subprocess.run([program, command, name, transfer, *folders], capture_output=True, timeout=60,
-                check=False)
+            ran = run([program, command, name, transfer, *folders])
             assert ran.returncode in (0, 1) and not ran.stderr, ran
     reference_commands.copy_ledger("half", "old")
-    random_commands.Run.alter("old", random_commands.FIRST)
+    alter("old", TO_FIRST)
     os.mkdir("run")
     os.chdir("run")
 
@@ -122,7 +121,7 @@ class Case:
 
     def run(self, before, variables):
         words = [*before, self.program, *self.words]
-        return subprocess.run(words, env={**os.environ, **variables}, capture_output=True, timeout=60, check=False)
+        return run(words, env={**os.environ, **variables})
 
     def judge(self, ran, failed):
         """Judges the result of a run in which this failed, an allocation or the text of a call, and what follows."""
@@ -260,9 +259,8 @@ class Case:
         again = [b"again" if word == b"out" else word for word in self.words]
         for words in [again, [b"report", b"ledger", b"t1"]]:
             wanted = Commands().answer(words)
-            ran = subprocess.run([self.program, *words], capture_output=True, timeout=60, check=False)
-            is_said = is_explained(wanted.lines, wanted.status, ran.stderr)
-            if (ran.stdout, ran.returncode) != (text_of(wanted.lines), wanted.status) or not is_said:
+            ran = run([self.program, *words])
+            if not is_answered(ran, wanted.lines, wanted.status):
                 raise Otherwise(f"then: {ran} instead of {wanted[:2]}")
 
 
@@ -308,7 +306,8 @@ def refuse_growths(case, most, library):
 def fail_calls(case, most):
     """Returns how many calls failed."""
     case.start()
-    all_calls, of_start = traced(case.run, []), traced(subprocess.run, [[case.program]])
+    all_calls = traced(lambda before: case.run(before, {}))
+    of_start = traced(lambda before: run([*before, case.program]))
     failed = 0
     for name, errors in ERRORS.items():
         for number in spread(range(of_start[name] + 1, all_calls[name] + 1), most):
@@ -324,13 +323,9 @@ def fail_calls(case, most):
     return failed
 
 
-def traced(run, words):
-    """How many times each system call is made."""
-    before = ["strace", "-o", "../trace"]
-    if words:
-        run(before + words[0], capture_output=True, timeout=60, check=False)
-    else:
-        run(before, {})
+def traced(run_after):
+    """How many times each system call is made by what is run after these words."""
+    run_after(["strace", "-o", "../trace"])
     with open("../trace", encoding="utf-8", errors="replace") as file:
         return collections.Counter(found[1] for found in map(CALL.match, file) if found)
 

@@ -1,6 +1,6 @@
 #!/usr/bin/env python3
 """A second implementation of the commands of `bag`: what each prints, its status, and what it leaves behind. Written
-from docs/FORMAT.md and docs/bag.1; it uses the rules of tests/reference.py and tests/reference_receiver.py.
+from docs/FORMAT.md and docs/bag.1; it uses the rules of tests/model/reference.py and tests/model/reference_receiver.py.
 tests/random_commands.py compares the two.
 
 The numbers in brackets are sections of docs/FORMAT.md. Arguments, names, paths and contents are octets; lines are
@@ -13,9 +13,9 @@ import sqlite3
 import stat
 import tempfile
 
-import new_bags
 import reference
 import reference_receiver
+import reference_writer
 from reference_receiver import Refused, printed
 
 # The number of operands of each command; the last one may be repeated.
@@ -292,7 +292,7 @@ class Commands:
             if algorithm not in reference.ALGORITHMS:
                 return Answer(["unknown algorithm " + reference.spell(algorithm).decode()], 64)
         names = [algorithm.decode() for algorithm in algorithms]
-        order = new_bags.Order({path.decode(): octets for path, octets in files.items()}, names)
+        order = reference_writer.Order({path.decode(): octets for path, octets in files.items()}, names)
         _, made = order.answer()
         octets, number = order.oxum().split(".")
         return Answer([f"made {number} files, {octets} octets"], 0, made)

@@ -1,9 +1,6 @@
 """What the program may say on standard error about a command that it ran (FORMAT.md, section 14)."""
 
 import re
-import resource
-import signal
-import subprocess
 
 NEEDS = re.compile(rb"bag: [^\n]*: it has [0-9]+ octets, and opening it takes as much memory and a little more\n")
 LOG_STAYS = b": its log stays beside it, and both have to be kept together: "
@@ -24,18 +21,3 @@ def is_explained(lines, status, said):
     if lines == ["bag: memory"] and NEEDS.fullmatch(said):
         return True
     return not said or is_line and (said.endswith(b": it has no payload file below data/\n") or LOG_STAYS in said)
-
-
-def run_limited(command, limit=None):
-    """The status and the lines of a command, whose files may have so many octets. Standard error must be empty, but for
-    what explains a line."""
-
-    def limited():
-        if limit is not None:
-            signal.signal(signal.SIGXFSZ, signal.SIG_IGN)
-            resource.setrlimit(resource.RLIMIT_FSIZE, (limit, limit))
-
-    ran = subprocess.run(command, preexec_fn=limited, capture_output=True, timeout=120, check=False)
-    lines = ran.stdout.decode().splitlines()
-    assert is_explained(lines, ran.returncode, ran.stderr), (command, ran)
-    return ran.returncode, lines

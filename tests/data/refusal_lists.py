@@ -5,11 +5,11 @@ import hashlib
 import pathlib
 import tempfile
 
-import feeds
-import new_bags
 import reference
-from deliveries import with_files
-from first_format import change, write_first
+import reference_texts
+from events import with_files
+from ledger_files import change, write_first
+from reference_writer import Order, manifest
 from refused_calls import octets_answer, shown, told
 from small_bags import A_MD5, A_SHA256, BOTH_BY_MD5, DECLARATION, E_MD5, E_SHA256, MANIFEST, MARK, OF_0_97
 
@@ -24,7 +24,7 @@ A, E = (b"data/a.txt", b"abc"), (b"data/e.txt", b"")
 F = dict([*TAGS, A, E])
 MISSING_A, MISSING_E = "manifest-sha256.txt: missing: data/a.txt", "manifest-sha256.txt: missing: data/e.txt"
 FETCH = b"fetch.txt", b"http://example.org/a 3 data/a.txt\nhttp://example.org/e - data/e.txt\n"
-HOLED = new_bags.Order({"data/a.txt": b"abc", "data/e.txt": b""}, ["md5", "sha512"], [("Source-Organization", "Test")],
+HOLED = Order({"data/a.txt": b"abc", "data/e.txt": b""}, ["md5", "sha512"], [("Source-Organization", "Test")],
                        [("data/e.txt", "http://example.org/e")])
 HOLED_TAGS = sorted((path, octets) for path, octets in HOLED.answer()[1].items() if not reference.is_payload(path))
 # A file of three pieces.
@@ -282,13 +282,13 @@ def writing():
                     (with_files("element", b"", [(b"Source-Organization", b"Test")]), "added"),
                     (with_files("hole", b"", [(b"data/e.txt", b"http://example.org/e")]), "added"),
                     (("write",), " | ".join(["written 3.2", *shown(True, HOLED.answer()[1])])))
-    made = new_bags.Order({"data/a.txt": b"abc", "data/e.txt": b""}, ["md5", "sha256"])
+    made = Order({"data/a.txt": b"abc", "data/e.txt": b""}, ["md5", "sha256"])
     yield on_values("make", *tree, (with_files("make", b"", [(b"sha256", b""), (b"md5", b"")]), " | ".join(
         [told(0, ["made 2 files, 3 octets"]), *made.parts()[1:]])),
                     (with_files("make", b"", [(b"sha224", b"")]), told(64, ["unknown algorithm sha224"])))
     # Of these two are read, written and hashed side by side, and the third one is whole in its first piece.
     long = {b"data/e.txt": b"", b"data/m": LARGE[1], b"data/n": LARGE[1] * 2}
-    side = new_bags.Order({path.decode(): octets for path, octets in long.items()}, ["md5", "sha256"])
+    side = Order({path.decode(): octets for path, octets in long.items()}, ["md5", "sha256"])
     yield on_values("make, with files of several pieces", *tree_of(long),
         (with_files("make", b"", [(b"sha256", b""), (b"md5", b"")]), " | ".join(
         [told(0, [f"made 3 files, {3 * len(LARGE[1])} octets"]), *side.parts()[1:]])))
@@ -329,7 +329,7 @@ def values():
                     (with_files("manifest", b"manifest-sha512.txt",
                         [(A[0], sha512[b"abc"]), (A[0], sha512[b"abc"]), (E[0], sha512[b""]), (E[0], sha512[b""])]),
                      "listed | refused: twice | listed | refused: twice | "
-                     + octets_answer(new_bags.manifest("sha512", dict([A, E])))),
+                     + octets_answer(manifest("sha512", dict([A, E])))),
                     (with_files("metadata", b"", [(b"Source-Organization", b"Test")]),
                         "added | " + octets_answer(b"Source-Organization: Test\n")),
                     (with_files("metadata", b"", elements),
@@ -338,7 +338,7 @@ def values():
                      "added | refused: url | refused: place | "
                      + octets_answer(b"http://example.org/e 0 data/e.txt\n")))
     whole = lambda name, octets: with_files("whole", name, [(b"1.0", octets)])
-    pairs = feeds.pairs(A_SHA256.decode(), A[0], E_SHA256.decode(), E[0])
+    pairs = reference_texts.pairs(A_SHA256.decode(), A[0], E_SHA256.decode(), E[0])
     entries = lambda *lines: "entries " + " ".join(part if isinstance(part, str) else part.hex() for line in lines
         for part in line)
     yield on_values("texts that are read", (whole(b"manifest-sha256.txt", MANIFEST), pairs),

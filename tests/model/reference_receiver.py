@@ -1,6 +1,7 @@
 #!/usr/bin/env python3
 """A second implementation of the receiver of transfers, written only from docs/FORMAT.md; it uses the rules of
-tests/reference.py. tests/deliveries.py compares the two, and tests/worked_answers.py has worked cases for both.
+tests/model/reference.py. tests/deliveries.py compares the two, and tests/data/worked_answers.py has worked cases for
+both.
 
 The numbers in brackets are sections of docs/FORMAT.md. Names, paths and contents are octets; an answer is the text of
 its line.
@@ -177,3 +178,17 @@ class Receiver:
         if name not in self.transfers:
             raise Refused("no transfer")
         return self.transfers[name]
+
+
+def ledger_of(receiver):
+    """What it holds: for each transfer its tag files and its payload files."""
+    return {name: (dict(transfer.tags), dict(transfer.held)) for name, transfer in receiver.transfers.items()}
+
+
+def known(ledger):
+    """A receiver with this ledger."""
+    receiver = Receiver()
+    for name, (tags, held) in (ledger or {}).items():
+        assert receiver.begin(name, list(tags.items())) == "new"
+        assert all(receiver.deliver(name, path, octets) == "taken" for path, octets in held.items())
+    return receiver

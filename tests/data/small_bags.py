@@ -1,12 +1,9 @@
-#!/usr/bin/env python3
-"""small_bags.py PROGRAM: small bags, each with the lines and the status that docs/FORMAT.md requires.
+"""Small bags, each with the lines and the status that docs/FORMAT.md requires.
 
 The digests are those that the standards publish for `abc` and for the empty message (RFC 1321, FIPS 180-4), and those
 that sha256sum computes.
 """
-import sys
-
-from hostile import DECLARATION, MARK, VALID, bag, judged, not_complete
+from hostile_bags import DECLARATION, MARK, VALID, bag, not_complete
 
 A_SHA256 = b"ba7816bf8f01cfea414140de5dae2223b00361a396177a9cb410ff61f20015ad"
 E_SHA256 = b"e3b0c44298fc1c149afbf4c8996fb92427ae41e4649b934ca495991b7852b855"
@@ -737,9 +734,7 @@ def limits():
     yield "limits that are met by name, first the lines", tags({b"fetch.txt": long, b"tagmanifest-md5.txt": huge}), many
 
 
-if __name__ == "__main__":
-    FAMILIES = (declarations, versions, encodings, names, told_names, other_names, manifests, digests, payloads, infos,
-                oxums,
-                info_lines, tag_manifests, fetches, fetch_lines, several_tag_files, limits, manifests_0_97, infos_0_97,
-                paths_0_97, repeats_0_97, tag_manifests_0_97, fetches_0_97)
-    sys.exit(judged(sys.argv[1], "small", FAMILIES))
+FAMILIES = (declarations, versions, encodings, names, told_names, other_names, manifests, digests, payloads, infos,
+            oxums,
+            info_lines, tag_manifests, fetches, fetch_lines, several_tag_files, limits, manifests_0_97, infos_0_97,
+            paths_0_97, repeats_0_97, tag_manifests_0_97, fetches_0_97)

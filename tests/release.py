@@ -1,5 +1,5 @@
 #!/usr/bin/env python3
-"""sources_digest.py FOLDER: prints the digest of the sources of the repository in FOLDER.
+"""release.py FOLDER: prints the digest of the sources of the repository in FOLDER.
 
 It is computed as docs/WORKING.md says, in the part 'Releases', without the scripts at the top. No name may have a line
 feed or a backslash.
