@@ -15,7 +15,8 @@ else
 fi
 # libraries: those of the kit that the crates use which the program stands on.
 libraries() {
-    sed '/^bag_tests:/d; /^bag_driver:/d; /^#/d; s/.*://' crates.txt | tr ' ' '\n' | grep -v '^bag_' | sort -u
+    sed '/^bag_tests:/d; /^bag_driver:/d; /^bag_examples:/d; /^#/d; s/.*://' crates.txt | tr ' ' '\n' |
+        grep -v '^bag_' | sort -u
 }
 for library in $(libraries); do
     expect "a notice names $library" 0 '' grep -qw -e "$library" release/NOTICES
