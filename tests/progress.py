@@ -28,7 +28,6 @@ UNITS = {"KiB": 1 << 10, "MiB": 1 << 20, "GiB": 1 << 30}
 LINE = re.compile(
     r"bag: ([a-z]+(?: in| the ledger,)?) ([0-9,]+)(?: of ([0-9,]+))? files,"
     r" ([0-9.]+) (KiB|MiB|GiB)(?: of ([0-9.]+ [KMG]iB))?")
-OPENING = re.compile(r"bag: opening the ledger of ([0-9.]+ [KMG]iB), ([0-9.]+) (KiB|MiB|GiB) read")
 READING = "reading the ledger,"
 # A line is shown after so many octets, and a file counts as so many besides its own.
 PER_LINE = 64 * MEBIBYTE
@@ -209,7 +208,7 @@ def follow(lines, work):
         assert weight >= last and files <= len(work.lengths), line
         last = weight
         counted.append(weight)
-    if (work.octets or 0) >= PER_LINE and work.told != READING:
+    if (work.octets or 0) >= PER_LINE:
         assert counted.pop(0) == 0, lines
     # None is missing, and none comes too soon. Reads are of at most 1 MiB.
     whole = len(work.lengths) * PER_FILE + ends[-1]
@@ -218,20 +217,6 @@ def follow(lines, work):
     for earlier, later in zip(counted, counted[1:]):
         assert later - earlier > PER_LINE - 2 * MEBIBYTE, (earlier, later)
     assert len(counted) >= 2, counted
-
-
-def follow_opening(lines, octets):
-    """Checks the lines of the opening of a ledger of this many octets. All of them are read once at least."""
-    if octets >= PER_LINE:
-        assert lines and lines[0].endswith(", 0 KiB read"), lines
-        lines = lines[1:]
-    for number, line in enumerate(lines, 1):
-        total, shown, unit = OPENING.fullmatch(line).groups()
-        assert total == size(octets), line
-        # What is beyond the decimal place is cut off, and a read is of at most 1 MiB.
-        lacking = number * PER_LINE - float(shown) * UNITS[unit]
-        assert -number * MEBIBYTE <= lacking <= UNITS[unit] / 10, line
-    assert len(lines) >= octets // PER_LINE, (lines, octets)
 
 
 def both(place, works, *words, again=lambda: None, status=0):
@@ -251,13 +236,11 @@ def both(place, works, *words, again=lambda: None, status=0):
         words, together.screen())
     assert watched.screen() == [], watched.screen()
     assert watched.erases_lines() and together.erases_lines(), (words, watched.said, together.said)
-    opening = list(itertools.takewhile(OPENING.fullmatch, watched.lines()))
-    told = [(name, list(lines)) for name, lines in itertools.groupby(watched.lines()[len(opening):],
+    told = [(name, list(lines)) for name, lines in itertools.groupby(watched.lines(),
         lambda line: LINE.fullmatch(line).group(1))]
     assert [name for name, _ in told] == [work.told for work in works], (words, watched.lines())
     for (_, lines), work in zip(told, works):
         follow(lines, work)
-    follow_opening(opening, works[0].octets if works[0].told == READING else 0)
 
 
 def many_files(place):
@@ -379,7 +362,7 @@ def totals(place):
             log.touch()
             os.truncate(log, of_log)
         ended = place.watch("list", str(ledger))
-        assert ended.lines() == [f"bag: opening the ledger of {total}, 0 KiB read" for total in told], (
+        assert ended.lines() == [f"bag: reading the ledger, 0 files, 0 KiB of {total}" for total in told], (
             octets, ended.said)
         assert (ended.status, ended.printed) == (3, b"bag: not a ledger\n"), ended.printed
         ledger.unlink()

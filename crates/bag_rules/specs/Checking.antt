@@ -21,7 +21,7 @@ pub record ChecksTree {T : Type 0} (shown : T → Shown) (failures : T → ℕ) 
     (old new : T) (answer : Result Outcome CheckFault) : Type 0 where
   -- What is returned for a bag is the verdict on it.
   pub verdict : (bag : Bag) → IsBagOf (shown old) bag → IfOk answer (IsVerdict bag)
-  -- Whatever octets the tree gives, what is returned is the verdict on one bag. So no file is read a second time.
+  -- Whatever octets the tree gives, what is returned is the verdict on one bag. So no answer mixes two readings.
   pub some : IfOk answer (IsVerdictOnSome (shown old))
   -- A report without faults means a valid bag, and one with no faults but wrong digests a complete bag.
   pub meaning : (bag : Bag) → IsBagOf (shown old) bag → IfOk answer (Means bag)

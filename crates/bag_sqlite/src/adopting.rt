@@ -94,10 +94,10 @@ impl<S: Alter> SqlKeeper<S> {
     /// Opens a database as the ledger that it holds, after reading and verifying all of its transfers and payload
     /// files.
     ///
-    /// All octets of all payload files are read, piece by piece, and hashed. Those of more than one piece that follow
-    /// one another are read side by side, up to four at a time. In a ledger of format 1 a payload file is one blob, and
-    /// is read whole; once all are verified, they are moved to format 2 in one transaction, so that the ledger is moved
-    /// completely or not at all, even if a crash ends the call.
+    /// All octets of all payload files are read, piece by piece, and hashed: those of at most one piece together, and
+    /// those of more one after another. In a ledger of format 1 a payload file is one blob, and is read whole; once all
+    /// are verified, they are moved to format 2 in one transaction, so that the ledger is moved completely or not at
+    /// all, even if a crash ends the call.
     ///
     /// # Errors
     ///
