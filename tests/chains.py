@@ -27,12 +27,12 @@ import tempfile
 import written_bags
 from compared import Ledger, damaged
 from events import answer, answered, run_driver, steps, with_files
+from ledger_files import PIECE
 from ledger_rows import found
 from reference_receiver import Receiver, known
 from reference_writer import ALGORITHMS, Order, verdict
 from running import ask, line
 
-PIECE = 65_536
 NAMES = [b"first", b"second"]
 
 

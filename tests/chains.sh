@@ -8,6 +8,7 @@ cd "$(dirname -- "$0")/.." || exit 1
 take_program
 build_driver
 
+[ -r /proc/self/syscall ] || skip '/proc does not say which call of the system a process is in'
 if [ "$(command -v md5sum sha1sum sha256sum sha512sum | wc -l)" -eq 4 ]; then
     # It prints what it tried.
     expect 'chains' 0 '' env TMPDIR="$work" \

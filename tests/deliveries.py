@@ -1,8 +1,7 @@
 #!/usr/bin/env python3
 """deliveries.py COUNT SEED DRIVER: makes COUNT random lists of deliveries, has the driver answer them all in one
 process, and compares its output with the answers of tests/model/reference_receiver.py. The same seed makes the same
-lists. The first answer that differs is reported with its list. Without DRIVER it prints the lists as the driver reads
-them, and with `--answers` in its place the expected output.
+lists. The first answer that differs is reported with its list.
 
 The driver reads events from standard input, one per line, and prints one line for each. An event is a word followed by
 its fields, each after one blank:
@@ -121,8 +120,8 @@ def difference(seed, wanted, ran):
     return None
 
 
-def compare(count, seed, driver):
-    wanted, left = [], set(kinds())
+def main(count, seed, *driver):
+    count, wanted, left = int(count), [], set(kinds())
 
     def asked():
         for number in range(count):
@@ -138,15 +137,6 @@ def compare(count, seed, driver):
     never = [f"never answered: {kind}" for kind in kinds() if kind in left]
     print("\n".join([f"{count} lists of {sum(map(len, wanted))} events: all answered alike", *never]))
     return 0 if wanted else 1
-
-
-def main(count, seed, *driver):
-    if driver and driver != ("--answers",):
-        return compare(int(count), seed, driver)
-    for number in range(int(count)):
-        events = made(seed, number)
-        print(*(answers(events) if driver else map(line, events)), sep="\n")
-    return 0
 
 
 if __name__ == "__main__":

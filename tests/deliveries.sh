@@ -9,10 +9,10 @@ cd "$(dirname -- "$0")/.." || exit 1
 build_driver
 expect 'random lists of deliveries, over a map' 0 '10000 lists of 166738 events: all answered alike' \
     env TMPDIR="$work" python3 -B tests/deliveries.py 10000 1 "$driver" calls map
-python3 -B tests/data/long_lists.py growing >"$work/growing"
-python3 -B tests/data/long_lists.py many >"$work/many"
-growing=$(python3 -B tests/data/long_lists.py growing --answers)
-many=$(python3 -B tests/data/long_lists.py many --answers)
+python3 -B tests/data/long_lists.py growing >"$work/growing" || exit
+python3 -B tests/data/long_lists.py many >"$work/many" || exit
+growing=$(python3 -B tests/data/long_lists.py growing --answers) || exit
+many=$(python3 -B tests/data/long_lists.py many --answers) || exit
 for keeper in map sqlite; do
     expect "worked cases, over $keeper" 0 '163 worked answers: 0 otherwise' \
         python3 -B tests/data/worked_answers.py "$driver" calls "$keeper"

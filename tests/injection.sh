@@ -70,9 +70,6 @@ many_faults() {
     sed -n '1,/^not complete$/p' <(seq -f 'manifest-sha256.txt: unlisted: data/%0150.0f' 5000; echo 'not complete')
 }
 expect 'many lines' 1 "$(many_faults)" ./bag check "$work/many"
-full() {
-    "$@" >/dev/full
-}
 expect 'many lines on a full output' 3 '' full ./bag check "$work/many"
 
 # closed_pipe COMMAND..: the output is a pipe whose reader has ended.

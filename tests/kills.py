@@ -25,8 +25,8 @@ import tempfile
 import time
 
 from explaining import is_explained
+from ledger_files import DECLARATION
 
-DECLARATION = b"BagIt-Version: 1.0\nTag-File-Character-Encoding: UTF-8\n"
 NAMES = ["first", "second"]
 FILES, LONGEST = 24, 300_000
 STEPS_OF_A_LEDGER = 20

@@ -1,9 +1,8 @@
 #!/usr/bin/env python3
 """new_bags.py COUNT SEED PROGRAM DRIVER..: has the driver write chosen bags and COUNT random ones, in one process, and
-compares its answers and each file with what tests/model/reference_writer.py makes. Then
-each bag is put in a folder, where coreutils check each line of its manifests that they can spell, and the program and
-tests/model/reference.py judge it. The same seed makes the same bags. The first answer that differs is reported with its
-lines.
+compares its answers and each file with what tests/model/reference_writer.py makes. Then each bag is put in a folder,
+where coreutils check each line of its manifests that they can spell, and the program and tests/model/reference.py judge
+it. The same seed makes the same bags. The first answer that differs is reported with its lines.
 
 The driver reads lines from standard input, and prints a line for each. Each is a word followed by its fields, each
 after one blank: the octets in lowercase hex, or `-` if there are none. Texts are UTF-8, and paths aren't spelled.

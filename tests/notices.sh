@@ -21,6 +21,7 @@ libraries() {
 for library in $(libraries); do
     expect "a notice names $library" 0 '' grep -qw -e "$library" release/NOTICES
 done
+expect 'the crates use libraries of the kit' 0 '' [ -n "$(libraries)" ]
 expect 'the names of both licences' 0 $'MIT License\n                                 Apache License' \
     grep -hx -m 1 'MIT License\| *Apache License' LICENSE-MIT LICENSE-APACHE
 expect 'whose work it is' 0 'Copyright the Vuzkrid developers' grep Copyright LICENSE-MIT

@@ -19,10 +19,9 @@ import sys
 import tempfile
 import tty
 
-from ledger_files import write_first
+from ledger_files import DECLARATION, write_first
 from running import run
 
-DECLARATION = b"BagIt-Version: 1.0\nTag-File-Character-Encoding: UTF-8\n"
 MEBIBYTE = 1 << 20
 UNITS = {"KiB": 1 << 10, "MiB": 1 << 20, "GiB": 1 << 30}
 LINE = re.compile(

@@ -161,10 +161,11 @@ class Run:
         word = self.rng.choice([b"%s", b"%s", b"%s", b"%s/", b"./%s"]) % name
         return b"./" + word if word.startswith(b"-") else word
 
-    def special(self, percent, places=(b"data/special", b"special", b"data/\xff")):
-        """What isn't allowed in a bag, at one of the places."""
+    def special(self, percent):
+        """What isn't allowed in a bag, at one of three places."""
         if not sometimes(self.rng, percent):
             return {}
+        places = b"data/special", b"special", b"data/\xff"
         return {self.rng.choice(places): self.rng.choice([os.mkfifo, link(b"data"), link(b"none"), link(b"../text")])}
 
     # Folders.

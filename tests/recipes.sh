@@ -134,7 +134,9 @@ for shell in "${shells[@]}"; do
         desk first-bag
         expect "$name: a valid bag" 0 $'./archive/received\nvalid' kept "$shell" "$script"
         desk faulty-lines
-        expect "$name: not valid" 1 $'./received\n'"$(./bag check examples/faulty-lines)" kept "$shell" "$script"
+        expect "$name: not valid" 1 \
+            $'./received\nbag-info.txt:2: label\nfetch.txt:1: url\nmanifest-sha256.txt:1: digest form\nnot complete' \
+            kept "$shell" "$script"
         desk version-0.96
         expect "$name: not judged" 2 $'./received\noutside: version' kept "$shell" "$script"
         desk first-bag
@@ -190,7 +192,7 @@ for shell in "${shells[@]}"; do
     reports=$work/reports-$shell
     expect "$name: as docs/RECIPES.md shows it" 1 "$(recipe '0 examples/first-bag')" \
         by "$shell" . check-bags "$reports" examples/f*
-    expect "$name: the report that it names" 0 "$(./bag check examples/fetch-length)" \
+    expect "$name: the report that it names" 0 $'fetch.txt:1: length: data/a.txt\nnot complete' \
         cat "$reports/examples_fetch-length"
     expect "$name: reports that are there" 3 '' by "$shell" . check-bags "$reports" examples
     expect "$name: reports that cannot be made" 3 '' by "$shell" . check-bags "$work/none/none/reports" examples

@@ -14,7 +14,7 @@ on_terminal() {
     return "$status"
 }
 
-build_first
+take_program
 if ! command -v script >"$work/tool"; then
     lacking 'what is printed on a terminal (script is not installed)'
     finish

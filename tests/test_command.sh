@@ -62,4 +62,19 @@ named_only() {
 }
 expect 'each script has one row' 0 "$(printf '%s\n' tests/*.sh | LC_ALL=C sort)" rows
 expect 'no file is named that is not there' 0 '' named_only
+# unnamed: the shared files that it does not name.
+unnamed() {
+    (cd tests && find lib model data -name __pycache__ -prune -o -type f -print) | while read -r name; do
+        grep -qF "\`$name\`" tests/README.md || echo "$name"
+    done
+}
+expect 'each shared file is named' 0 '' unnamed
+# imports FILES IMPORTERS: the lines of the importers that import one of the files. Both are patterns.
+imports() {
+    local names
+    names=$(cd tests && basename -as .py $1 | paste -sd '|')
+    (cd tests && grep -nE "^(from|import) ($names)( |$)" $2)
+}
+expect 'a model imports only models' 1 '' imports 'lib/*.py data/*.py *.py' 'model/*.py'
+expect 'no script is imported' 1 '' imports '*.py' '*.py */*.py'
 finish

@@ -23,8 +23,8 @@ import sys
 import tempfile
 
 from explaining import is_explained
+from ledger_files import DECLARATION
 
-DECLARATION = b"BagIt-Version: 1.0\nTag-File-Character-Encoding: UTF-8\n"
 PAYLOAD = {f"data/{folder}{number}": f"{folder}{number}\n".encode() * length
            for folder in "ab" for number, length in enumerate([1, 0, 30_000])}
 PAIRS = 50

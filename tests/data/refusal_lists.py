@@ -25,7 +25,7 @@ F = dict([*TAGS, A, E])
 MISSING_A, MISSING_E = "manifest-sha256.txt: missing: data/a.txt", "manifest-sha256.txt: missing: data/e.txt"
 FETCH = b"fetch.txt", b"http://example.org/a 3 data/a.txt\nhttp://example.org/e - data/e.txt\n"
 HOLED = Order({"data/a.txt": b"abc", "data/e.txt": b""}, ["md5", "sha512"], [("Source-Organization", "Test")],
-                       [("data/e.txt", "http://example.org/e")])
+              [("data/e.txt", "http://example.org/e")])
 HOLED_TAGS = sorted((path, octets) for path, octets in HOLED.answer()[1].items() if not reference.is_payload(path))
 # A file of three pieces.
 LARGE = b"data/m", (bytes(range(251)) * 523)[:131073]
@@ -33,14 +33,14 @@ OF_LARGE = [TAGS[0], (b"manifest-md5.txt", b"%s  data/m\n" % hashlib.md5(LARGE[1
 OTHER_SPELLING = A_SHA256.upper() + b"\t*./data/a.txt\r\n" + E_SHA256 + b"  data/e.txt"
 
 
-def on_ledger(name, steps, tags=TAGS, items=(A, E), transfer=b"t1", keepers=KEEPERS, broken=("none", 0), undisturbed=0):
+def on_ledger(name, steps, tags=TAGS, items=(A, E), transfer=b"t1", broken=("none", 0), undisturbed=0):
     """Steps on a ledger, each a call with its answer, of which the first few are never refused memory. Then what is
     held is asked for in every way, delivered again, and asked for once more after the ledger was opened again."""
     start = [(("start",), "started")]
     asked = rest(tags, items, transfer)
     return Calls(name, [event for event, _ in [*start, *steps]] + asked, len(start) + undisturbed,
                  len(start) + len(steps),
-                 [answer for _, answer in [*start, *steps]], keepers, broken)
+                 [answer for _, answer in [*start, *steps]], KEEPERS, broken)
 
 
 def rest(tags, items, transfer):

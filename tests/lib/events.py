@@ -3,10 +3,10 @@ driver that is stopped at a call of a file of its ledger (tests/ledger.py descri
 import hashlib
 import itertools
 
+from ledger_files import DECLARATION
 from reference_receiver import Receiver, ledger_of
 from running import ask, line
 
-DECLARATION = b"BagIt-Version: 1.0\nTag-File-Character-Encoding: UTF-8\n"
 # Events that make several deliveries, each with an answer of its own.
 RUNS = ["run", "bring-first", "fetch"]
 NEVER = 2**64 - 1

@@ -8,7 +8,7 @@ import subprocess
 import time
 
 from explaining import is_explained
-from ledger_files import DECLARATION, PIECE
+from ledger_files import PIECE, change, tags_of
 from running import run_limited
 
 URL = "http://example.org/"
@@ -23,9 +23,7 @@ class Place:
         self.program, self.work, self.ledger = program, work, work / "at" / "ledger"
         self.ledger.parent.mkdir(parents=True)
         self.contents, self.bag, self.exports = contents, work / "bag", 0
-        lines = "".join(f"{hashlib.sha256(octets).hexdigest()}  {path.replace('%', '%25')}\n"
-            for path, octets in contents.items())
-        self.tags = {"bagit.txt": DECLARATION, "manifest-sha256.txt": lines.encode()}
+        self.tags = tags_of(contents)
         if fetched:
             self.tags["fetch.txt"] = "".join(f"{URL}{path} - {path}\n" for path in fetched).encode()
         for path, octets in {**self.tags, **contents}.items():
@@ -68,10 +66,7 @@ class Place:
     def changed(self, text):
         """The answer of `list` after this change, which is in the file and not in its log. If it is refused, the file
         stays."""
-        database = sqlite3.connect(self.ledger)
-        database.executescript(text)
-        database.execute("PRAGMA wal_checkpoint(TRUNCATE)")
-        database.close()
+        change(self.ledger, text)
         before = self.ledger.read_bytes()
         found = self.run("list", self.ledger)
         assert found[0] == 0 or self.ledger.read_bytes() == before, text

@@ -3,8 +3,9 @@ have a piece, a part of one, or several."""
 import hashlib
 
 import reference
+from events import with_files
+from ledger_files import DECLARATION
 
-DECLARATION = b"BagIt-Version: 1.0\nTag-File-Character-Encoding: UTF-8\n"
 ALGORITHMS = ["md5", "sha1", "sha256", "sha512"]
 LETTERS = "abcdefghijklmnopqrstuvwxyz0123456789-"
 # Among others the first and the last character of each length in UTF-8, and those around the surrogates.
@@ -61,7 +62,7 @@ class Transfer:
         self.tags = [(b"bagit.txt", DECLARATION), *manifests, *notes]
 
     def event(self, word, files):
-        return (word, self.name, *(field for file in files for field in file))
+        return with_files(word, self.name, files)
 
     def deliveries(self, rng):
         """Most of the payload files, in some order, in one of the ways in which they can come."""

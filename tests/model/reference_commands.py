@@ -1,7 +1,6 @@
-#!/usr/bin/env python3
 """A second implementation of the commands of `bag`: what each prints, its status, and what it leaves behind. Written
-from docs/FORMAT.md and docs/bag.1; it uses the rules of tests/model/reference.py and tests/model/reference_receiver.py.
-tests/random_commands.py compares the two.
+from docs/FORMAT.md and docs/bag.1; it uses the rules of tests/model/reference.py, tests/model/reference_receiver.py
+and tests/model/reference_writer.py. tests/random_commands.py compares the two.
 
 The numbers in brackets are sections of docs/FORMAT.md. Arguments, names, paths and contents are octets; lines are
 texts.

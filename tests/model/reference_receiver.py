@@ -1,4 +1,3 @@
-#!/usr/bin/env python3
 """A second implementation of the receiver of transfers, written only from docs/FORMAT.md; it uses the rules of
 tests/model/reference.py. tests/deliveries.py compares the two, and tests/data/worked_answers.py has worked cases for
 both.
