@@ -294,7 +294,7 @@ differs 'it names UTF-8' "printf 'Title: \\xe9\\n' >>bag-info.txt"
 differs '`100%.txt` in a manifest' 'mv data/a.txt data/100%.txt; listed_as data/100%.txt'
 differs '`100%25.txt` there' 'mv data/a.txt data/100%.txt; listed_as data/100%25.txt'
 differs 'blanks at the end' "listed_as 'data/a.txt  '"
-differs 'a line that begins with `#`' "sed -i '1i # by hand' manifest-sha256.txt"
+differs 'a line `# comment`' "sed -i '1i # by hand' manifest-sha256.txt"
 differs 'the name of a file in NFD' "mv data/a.txt $'data/e\u0301'; listed_as $'data/\u00e9'"
 differs 'two files whose names' "mv data/a.txt $'data/e\u0301'; listed_as $'data/e\u0301'
     mv data/e.txt $'data/\u00e9'; sed -i $'2s/e.txt/\u00e9/' manifest-sha256.txt"
